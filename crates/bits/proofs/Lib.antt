@@ -1,0 +1,9 @@
+pub mod Every
+pub mod Masks
+pub mod Overs
+pub mod Painting
+pub mod Pairs
+pub mod Planes
+pub mod Tabs
+pub mod Words
+pub mod Zeros
