@@ -6,8 +6,9 @@ use Rattle.bits.specs.Pair.{pairOf, packed}
 use Rattle.bits.specs.Plane.{byteOf, shadeOf, planeOf}
 use Rattle.colour.specs.Colour.{red, green, blue, gammaRamp, ramp, rgb8}
 use Rattle.colour.specs.Entry.{tileOf, paletteOf, flipX, flipY}
+use Rattle.receiver.specs.Count.{codeOf, countOf}
 use Rattle.pairs.specs.Table.{table}
 
 pub pairs-on-each-edge : map (λ row. row .0) table ≡ map (λ row. row .1) table
-unfolding table bitAt bitOf pairOf packed byteOf shadeOf planeOf red green blue gammaRamp ramp rgb8 tileOf paletteOf flipX flipY
+unfolding table bitAt bitOf pairOf packed byteOf shadeOf planeOf red green blue gammaRamp ramp rgb8 tileOf paletteOf flipX flipY codeOf countOf
 pairs-on-each-edge = refl

@@ -1,0 +1,38 @@
+-- Each arm knows its stage, and the definition computes there.
+use borrow.Author.Needs.{needs}
+use mathlib.Core.Path.{refl}
+use Rattle.receiver.specs.Receive.{stageNumber}
+use Rattle.receiver.proofs.stage_number.Statement.{statement}
+use Rattle.receiver.proofs.stage_number.Tie as tie
+
+enum-told : tie.Need-enum-told
+enum-told c = search needs
+
+enum-told-2 : tie.Need-enum-told-2
+enum-told-2 c = search needs
+
+enum-told-3 : tie.Need-enum-told-3
+enum-told-3 c = search needs
+
+returns : tie.Need-returns
+unfolding stageNumber
+returns c = rw (c .enum-told .given .1)
+
+returns-2 : tie.Need-returns-2
+unfolding stageNumber
+returns-2 c = rw (c .enum-told2 .given .1)
+
+returns-3 : tie.Need-returns-3
+unfolding stageNumber
+returns-3 c = rw (c .enum-told3 .given .1)
+
+pub stage-number-spec : {M : Type 1} → statement M
+stage-number-spec =
+    tie.close
+    (tie.spec
+    enum-told
+    enum-told-2
+    enum-told-3
+    returns
+    returns-2
+    returns-3)

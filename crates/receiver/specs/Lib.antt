@@ -1,0 +1,6 @@
+pub mod Count
+pub mod Lines
+pub mod Port
+pub mod Receive
+pub mod Store
+pub mod Valid

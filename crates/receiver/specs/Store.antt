@@ -1,0 +1,48 @@
+-- The packet store: 112 bytes, seven places of sixteen. A packet that is in takes its place there; a command is complete with its last.
+-- Document 01, A write: "Append the packet. If all are in: .. answer its 16 to 112 bytes."; The unit block: "32 packet store (112)".
+use Prim.Native.Nat.{ℕ, zero, suc, _-_, _*_, _/_, _%_, _<_}
+use mathlib.Core.List.{List, [], _∷_}
+use mathlib.Core.Option.{Option, none, some}
+use lib.ListN.{take, replicate}
+use Rattle.bits.specs.Over.{over}
+use Rattle.receiver.specs.declared.Done.{Done}
+use Rattle.receiver.specs.declared.Done.the-variants.{Nothing, Packet, Command}
+
+-- the n bytes of a number, lowest first
+unfoldable pub bytesOf : ℕ → ℕ → List ℕ
+bytesOf zero x = []
+bytesOf (suc n) x = x % 256 ∷ bytesOf n (x / 256)
+
+-- the store s with the packet p at its n-th place
+unfoldable pub appended : List ℕ → ℕ → ℕ → List ℕ
+appended s p n = over (16 * n) 16 (bytesOf 16 p) s
+
+-- the store after a pulse that completed this with the packet p: a complete command's bytes stand at its front
+unfoldable pub filed : Done → ℕ → List ℕ → List ℕ
+filed Nothing p s = s
+filed (Packet n) p s = appended s p n
+filed (Command n) p s = appended s p (n - 1)
+
+-- document 01's answer: "none", or the bytes of the command, which stand at the front of the store
+unfoldable pub answerOf : Done → List ℕ → Option (List ℕ)
+answerOf Nothing s = none
+answerOf (Packet n) s = none
+answerOf (Command n) s = some (take (16 * n) s)
+
+-- "idle": when the command has been answered the store is zero
+unfoldable pub emptied : Done → List ℕ → List ℕ
+emptied Nothing s = s
+emptied (Packet n) s = s
+emptied (Command n) s = replicate 112 0
+
+-- the packets of a command that is complete, or 0
+unfoldable pub packetsOf : Done → ℕ
+packetsOf Nothing = 0
+packetsOf (Packet n) = 0
+packetsOf (Command n) = n
+
+-- what is completed has its place in the store
+abbrev pub Fits : Done → Type 0
+Fits Nothing = Unit {0}
+Fits (Packet n) = n < 7
+Fits (Command n) = (0 < n) × (n < 8)
