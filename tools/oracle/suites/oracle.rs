@@ -1,0 +1,242 @@
+//! The oracle held to document 01, with no port: that it loads and saves every valid block, that what it leaves is valid,
+//! and that document 01's worked examples are what the Rust does. What the other suites find rests on this.
+
+use crate::block::{self, *};
+use crate::ctx::Ctx;
+use crate::generate::{self, Class};
+use crate::oracle::{self, BorderMapEntry, Oracle};
+use crate::shrink::{Block, Bytes, List};
+use crate::valid;
+use std::collections::BTreeSet;
+
+pub fn run(ctx: &mut Ctx) {
+    fresh_blocks(ctx);
+    every_class(ctx);
+    every_clause(ctx);
+    every_command(ctx);
+    steps_stay_valid(ctx);
+    pages(ctx);
+    worked_examples(ctx);
+}
+
+fn fresh_blocks(ctx: &mut Ctx) {
+    ctx.same(|| "new".into(), block::new(), Oracle::new().save());
+    let post_boot = Oracle::post_boot().save();
+    ctx.same(|| "post_boot".into(), block::post_boot(), post_boot);
+    for fresh in [block::new(), block::post_boot()] {
+        let valid = valid::check(&fresh);
+        ctx.same(|| "a fresh block is valid".into(), valid, Ok(()));
+    }
+}
+
+/// Load, then save, is the identity, and each class that V1 to V6 allow is reached.
+fn every_class(ctx: &mut Ctx) {
+    let mut reached = BTreeSet::new();
+    let mut allowed = BTreeSet::new();
+    for class in Class::all() {
+        let b = generate::block_of(&mut ctx.rng, class);
+        if valid::check(&b).is_ok() {
+            allowed.insert(class);
+        }
+    }
+    let mut identity = |ctx: &mut Ctx, b: Vec<u8>| {
+        reached.insert(Class::of(&b));
+        ctx.try_on(Block(b), |b| {
+            valid::check(&b.0)?;
+            block::difference(&Oracle::load(&b.0).save(), &b.0)
+        });
+    };
+    for &class in &allowed {
+        for _ in ctx.rounds(2) {
+            let b = generate::block_of(&mut ctx.rng, class);
+            identity(ctx, b);
+        }
+    }
+    for _ in ctx.rounds(1500) {
+        let b = generate::block(&mut ctx.rng);
+        identity(ctx, b);
+    }
+    ctx.check(reached == allowed, || {
+        let missed: Vec<_> = allowed.symmetric_difference(&reached).collect();
+        format!("classes: {missed:?}")
+    });
+    ctx.note(format!(
+        "{} of {} classes of valid blocks",
+        reached.len(),
+        allowed.len()
+    ));
+}
+
+/// Each clause of V1 to V6 is what refuses some block that is nearly valid.
+fn every_clause(ctx: &mut Ctx) {
+    let mut broken = BTreeSet::new();
+    for _ in ctx.rounds(20_000) {
+        if let Err(clause) = valid::check(&generate::nearly_valid(&mut ctx.rng)) {
+            broken.insert(clause);
+        }
+    }
+    for (clause, _) in valid::clauses(&block::new()) {
+        ctx.check(broken.contains(clause), || {
+            format!("no block breaks {clause}")
+        });
+    }
+}
+
+/// Every code with every packet count, from a random block: the command comes back, and the block stays valid.
+fn every_command(ctx: &mut Ctx) {
+    for round in ctx.rounds(4) {
+        for first in 0..=255u8 {
+            let mut b = generate::block(&mut ctx.rng);
+            if round % 2 == 0 {
+                b = block::post_boot();
+            }
+            let command = generate::command(&mut ctx.rng, first >> 3, first & 7);
+            // whatever was under way is brought to its end first
+            let mut writes = generate::rest_of_command(&mut ctx.rng, &b);
+            writes.push(0x30);
+            let input = (Block(b), List(writes), Bytes(command));
+            ctx.try_on(input, |(b, before, command)| {
+                let mut rust = Oracle::load(&b.0);
+                before.0.iter().for_each(|w| drop(rust.write(*w)));
+                let mid_packet = rust.save()[RECEIVER] != 0;
+                let answers: Vec<_> = generate::encode(&command.0)
+                    .iter()
+                    .filter_map(|w| rust.write(*w))
+                    .collect();
+                let count = usize::from(valid::count(command.0[0]));
+                let whole = !mid_packet && command.0.len() == 16 * count;
+                if whole && answers != [command.0.clone()] {
+                    return Err(format!("answers {answers:X?}"));
+                }
+                Ok(valid::check(&rust.save())?)
+            });
+        }
+    }
+}
+
+/// After random writes and screens the saved block is valid, and holds all that matters of the Rust's state.
+fn steps_stay_valid(ctx: &mut Ctx) {
+    for _ in ctx.rounds(400) {
+        let b = generate::block(&mut ctx.rng);
+        let mut writes = generate::rest_of_command(&mut ctx.rng, &b);
+        writes.extend(generate::writes(&mut ctx.rng, 1500));
+        let screens = (0..3)
+            .map(|_| Bytes(generate::screen(&mut ctx.rng)))
+            .collect();
+        let input = (Block(b), List(writes), List(screens));
+        ctx.try_on(input, |(b, writes, screens)| {
+            let mut rust = Oracle::load(&b.0);
+            let third = writes.0.len().div_ceil(3).max(1);
+            for (i, part) in writes.0.chunks(third).enumerate() {
+                let mut again = Oracle::load(&rust.save());
+                for w in part {
+                    if rust.write(*w) != again.write(*w) {
+                        return Err(format!("the block lacks something: write {w:02X}"));
+                    }
+                }
+                if let Some(screen) = screens.0.get(i) {
+                    let pending = rust.pending();
+                    let landed = rust.screen(&screen.0);
+                    if landed != pending.filter(|p| p.0 == 1).map(|p| p.1) {
+                        return Err(format!("pending {pending:?}, landed {landed:?}"));
+                    }
+                    again.screen(&screen.0);
+                }
+                valid::check(&rust.save())?;
+                block::difference(&again.save(), &rust.save())?;
+            }
+            Ok(())
+        });
+    }
+}
+
+/// The generator's screen of a page shows that page to the Rust.
+fn pages(ctx: &mut Ctx) {
+    for _ in ctx.rounds(100) {
+        let page = generate::page(&mut ctx.rng);
+        let screen = generate::screen_of_page(&mut ctx.rng, &page);
+        let shown = oracle::transfer_data(&screen);
+        ctx.check(shown == page, || "a page comes back otherwise".into());
+    }
+}
+
+/// Document 01, "Pairs on each edge" and the examples in its text, through the Rust.
+fn worked_examples(ctx: &mut Ctx) {
+    let mut holds = |what: &str, holds: bool| ctx.check(holds, || what.into());
+
+    for (first, count) in [(0x00, 0), (0xEF, 7), (0xF0, 1), (0xF7, 1)] {
+        holds("the twelve: counts", oracle::packet_count(first) == count);
+    }
+    // the command's own pulses raise P15 once a packet bit at least, so the index is set from the block at the stop
+    for (index, after) in [(1, 2), (3, 0)] {
+        holds("the twelve: MLT_REQ 2", mlt_req_2(index) == after);
+    }
+    let entry = BorderMapEntry(0x5003);
+    holds(
+        "the twelve: 5003",
+        (entry.tile(), entry.palette(), entry.flip_x(), entry.flip_y()) == (3, 4, true, false),
+    );
+    holds("the twelve: 67BF", oracle::rgb8(0x67BF) == 0xFF_EE_CA);
+    holds("the twelve: 1B", oracle::attribute_cells(&[0x1B])[0][..4] == [0, 1, 2, 3]);
+    let mut screen = vec![0; SCREEN_LEN];
+    screen[..2].copy_from_slice(&[0x1B, 0x1B]);
+    holds("the twelve: planes", oracle::transfer_data(&screen)[..2] == [0x55, 0x33]);
+
+    let cells = cells_after(&[0x21, 1, 1, 2, 3, 3, 3, 3]);
+    let only = cells[3][3] == 2 && cells.iter().flatten().sum::<u8>() == 2;
+    holds("the twelve: ATTR_BLK on one cell", only);
+    let cells = cells_after(&[0x21, 1, 4, 0x10, 5, 0, 4, 9]);
+    let all = cells.iter().flatten().all(|c| *c == 1);
+    holds("the twelve: ATTR_BLK with x1 > x2", all);
+
+    let mut command = [0; 16];
+    command[..2].copy_from_slice(&[0xB9, 0x02]);
+    let (answers, b) = after(&generate::encode(&command));
+    holds("B9 02: the command", answers == [command.to_vec()]);
+    holds("B9 02: the block", head(&b) == "02000001010000000001000000");
+    let (_, b) = after(&[0x00, 0x30, 0x20]);
+    holds("003020: the block", head(&b) == "00000001000100000101000000");
+    let (_, b) = after(&[0x00, 0x20]);
+    holds("00 then 20: no bit", b[RECEIVER] == 1 && b[BIT_INDEX] == 0);
+    let cells = cells_after(&[0x39, 19, 17, 2, 0, 0, 0xFF]);
+    let one = cells.iter().flatten().filter(|c| **c != 0).count() == 1 && cells[17][19] == 3;
+    holds("ATTR_CHR at (19,17) of count 2", one);
+
+    let mut rust = Oracle::post_boot();
+    let mut command = [0; 16];
+    command[0] = 0x59;
+    generate::encode(&command).iter().for_each(|w| drop(rust.write(*w)));
+    let screen = vec![0; SCREEN_LEN];
+    let landed = [(); 4].map(|_| rust.screen(&screen));
+    holds("a transfer lands at the third screen", landed == [None, None, Some(0), None]);
+}
+
+/// The index after MLT_REQ 2 arrives with this index at its stop pulse, which doesn't raise P15.
+fn mlt_req_2(index: u8) -> u8 {
+    let mut b = block::post_boot();
+    (b[JOYPAD_INDEX], b[JOYPAD_MASK]) = (index, 3);
+    (b[RECEIVER], b[BIT_INDEX]) = (1, 128);
+    b[PACKET][..2].copy_from_slice(&[0x89, 2]);
+    let mut rust = Oracle::load(&b);
+    assert!(rust.write(0x20).is_some());
+    rust.save()[JOYPAD_INDEX]
+}
+
+/// The answers to these writes from `post_boot`, and the block.
+fn after(writes: &[u8]) -> (Vec<Vec<u8>>, Vec<u8>) {
+    let mut rust = Oracle::post_boot();
+    let answers = writes.iter().filter_map(|w| rust.write(*w)).collect();
+    (answers, rust.save())
+}
+
+/// The attribute map after one command of one packet.
+fn cells_after(command: &[u8]) -> [[u8; 20]; 18] {
+    let mut packet = [0; 16];
+    packet[..command.len()].copy_from_slice(command);
+    oracle::attribute_cells(&after(&generate::encode(&packet)).1[MAP])
+}
+
+/// The first thirteen bytes, as `replay` prints them.
+fn head(b: &[u8]) -> String {
+    b[..13].iter().map(|x| format!("{x:02X}")).collect()
+}
