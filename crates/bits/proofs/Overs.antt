@@ -1,15 +1,38 @@
--- A list with a part replaced: its length, and how the kit's `paste` (a copy half done) ends as one.
-use mathlib.Core.Path.{_≡_}
+-- A list with a part replaced: its length, its parts, how the kit's `paste` (a copy half done) ends as one, and where it meets other lists.
+use mathlib.Core.Path.{_≡_, sym, ap, ap₂, _∙_}
 use mathlib.Core.List.{List, _++_, append-assoc}
 use Prim.Native.Nat.{ℕ, _+_, _≤_}
 use native.Mathlib.Omega.{arith}
-use lib.ListN.{length, length-append, length-take, length-drop}
-use lib.Seq.{paste, take-length, drop-drop}
-use Rattle.bits.specs.Over.{over}
+use lib.ListN.{length, take, drop, length-append, length-take, length-drop, take-append-drop}
+use lib.Seq.{paste, take-length, drop-drop, take-append-le, drop-append-le, take-add}
+use Rattle.bits.specs.Over.{part, over}
 
 pub length-over : (at n : ℕ) (ys b : List ℕ) → at + n ≤ length b → length ys ≡ n → length (over at n ys b) ≡ length b
 length-over at n ys b h e = simp (length-append, length-take, length-drop) (omega arith)
 
+pub length-part : (at n : ℕ) (b : List ℕ) → at + n ≤ length b → length (part at n b) ≡ n
+length-part at n b h = simp (length-take, length-drop) (omega arith)
+
 -- a copy that is done
 pub paste-over : (b : List ℕ) (at : ℕ) (s : List ℕ) → paste b at s (length s) ≡ over at (length s) s b
 paste-over b at s = rw (take-length s, append-assoc, drop-drop (length s) at b)
+
+-- within the first of two lists, past a start, and within a part
+pub over-left : (i n : ℕ) (ys p q : List ℕ) → i + n ≤ length p → over i n ys (p ++ q) ≡ over i n ys p ++ q
+over-left i n ys p q h =
+    let hi : i ≤ length p = omega arith in
+    let hn : n ≤ length (drop i p) = simp length-drop (omega arith) in
+    ap₂ (λ (a z : List ℕ). a ++ (ys ++ z)) (take-append-le i p q hi) (ap (drop n) (drop-append-le i p q hi) ∙ drop-append-le n (drop i p) q hn)
+    ∙ simp append-assoc
+
+pub over-past : (at i n : ℕ) (ys b : List ℕ) → over (at + i) n ys b ≡ take at b ++ over i n ys (drop at b)
+over-past at i n ys b =
+    ap₂ (λ (a z : List ℕ). a ++ (ys ++ drop n z)) (take-add at i b) (sym (drop-drop i at b))
+    ∙ append-assoc (take at b) (take i (drop at b)) (ys ++ drop n (drop i (drop at b)))
+
+pub over-within : (at m i n : ℕ) (ys b : List ℕ) → i + n ≤ m → at + m ≤ length b → over (at + i) n ys b ≡ over at m (over i n ys (part at m b)) b
+over-within at m i n ys b h k =
+    let hl : i + n ≤ length (part at m b) = simp (length-take, length-drop) (omega arith) in
+    over-past at i n ys b
+    ∙ ap (λ (d : List ℕ). take at b ++ over i n ys d) (sym (take-append-drop m (drop at b)))
+    ∙ ap (λ (l : List ℕ). take at b ++ l) (over-left i n ys (part at m b) (drop m (drop at b)) hl)
