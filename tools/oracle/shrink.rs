@@ -3,6 +3,9 @@
 use crate::block;
 use crate::valid;
 
+/// Elements or bytes of a run that are shown of an input; the seed gives it whole.
+const LONGEST: usize = 160;
+
 /// Whether an input still fails.
 pub type Fails<'a, T> = &'a mut dyn FnMut(&T) -> bool;
 
@@ -74,8 +77,9 @@ impl<T: Shrink> Shrink for List<T> {
     }
 
     fn show(&self) -> String {
-        let all: Vec<String> = self.0.iter().map(T::show).collect();
-        format!("{} of [{}]", all.len(), all.join(" "))
+        let all: Vec<String> = self.0.iter().take(LONGEST).map(T::show).collect();
+        let cut = if self.0.len() > LONGEST { " .." } else { "" };
+        format!("{} of [{}{cut}]", self.0.len(), all.join(" "))
     }
 }
 
@@ -92,11 +96,14 @@ impl Shrink for Bytes {
 
 impl Shrink for Block {
     fn shrink(&mut self, fails: Fails<Self>) {
-        for plain in [block::new(), vec![0; block::LEN]] {
-            shrink_bytes(&mut self.0, &plain, &mut |b| {
-                valid::check(b).is_ok() && fails(&Block(b.clone()))
-            });
+        let mut fails = |b: &Vec<u8>| valid::check(b).is_ok() && fails(&Block(b.clone()));
+        let mut plain = block::new();
+        shrink_bytes(&mut self.0, &plain, &mut fails);
+        // what can't be as in `new` may still be zero
+        for (byte, kept) in plain.iter_mut().zip(&self.0) {
+            *byte = if *byte == *kept { *byte } else { 0 };
         }
+        shrink_bytes(&mut self.0, &plain, &mut fails);
     }
 
     fn show(&self) -> String {
@@ -124,18 +131,22 @@ macro_rules! number {
 }
 number!(u8, u16, u32, usize);
 
+// The last part first: a list stands there, and a short one makes every later try quick. Twice, since each part that
+// shrinks may let the others shrink on.
 macro_rules! tuple {
-    ($($part:ident $i:tt),*) => {
+    ($($part:ident $i:tt),*; $($last_first:tt),*) => {
         impl<$($part: Shrink),*> Shrink for ($($part,)*) {
             fn shrink(&mut self, fails: Fails<Self>) {
-                $(
-                    let whole = self.clone();
-                    self.$i.shrink(&mut |part| {
-                        let mut whole = whole.clone();
-                        whole.$i = part.clone();
-                        fails(&whole)
-                    });
-                )*
+                for _ in 0..2 {
+                    $(
+                        let whole = self.clone();
+                        self.$last_first.shrink(&mut |part| {
+                            let mut whole = whole.clone();
+                            whole.$last_first = part.clone();
+                            fails(&whole)
+                        });
+                    )*
+                }
             }
 
             fn show(&self) -> String {
@@ -144,14 +155,12 @@ macro_rules! tuple {
         }
     };
 }
-tuple!(A 0);
-tuple!(A 0, B 1);
-tuple!(A 0, B 1, C 2);
-tuple!(A 0, B 1, C 2, D 3);
+tuple!(A 0, B 1; 1, 0);
+tuple!(A 0, B 1, C 2; 2, 1, 0);
+tuple!(A 0, B 1, C 2, D 3; 3, 2, 1, 0);
 
 /// The runs of bytes that are not as in `plain` (zero past its end), each with where it starts; a long one is cut.
 fn runs(bytes: &[u8], plain: &[u8]) -> String {
-    const LONGEST: usize = 160;
     let differs = |i: usize| bytes[i] != plain.get(i).copied().unwrap_or(0);
     let mut text = String::new();
     let mut i = 0;

@@ -3,12 +3,13 @@
 use crate::ctx::Ctx;
 
 macro_rules! suites {
-    ($($(#[$when:meta])? $name:ident,)*) => {
-        $($(#[$when])? mod $name;)*
-        pub const ALL: &[(&str, fn(&mut Ctx))] = &[$($(#[$when])? (stringify!($name), $name::run),)*];
+    ($($name:ident,)*) => {
+        $(mod $name;)*
+        pub const ALL: &[(&str, fn(&mut Ctx))] = &[$((stringify!($name), $name::run),)*];
     };
 }
 
 suites! {
     oracle,
+    leaves,
 }

@@ -174,13 +174,24 @@ fn worked_examples(ctx: &mut Ctx) {
     let entry = BorderMapEntry(0x5003);
     holds(
         "the twelve: 5003",
-        (entry.tile(), entry.palette(), entry.flip_x(), entry.flip_y()) == (3, 4, true, false),
+        (
+            entry.tile(),
+            entry.palette(),
+            entry.flip_x(),
+            entry.flip_y(),
+        ) == (3, 4, true, false),
     );
     holds("the twelve: 67BF", oracle::rgb8(0x67BF) == 0xFF_EE_CA);
-    holds("the twelve: 1B", oracle::attribute_cells(&[0x1B])[0][..4] == [0, 1, 2, 3]);
+    holds(
+        "the twelve: 1B",
+        oracle::attribute_cells(&[0x1B])[0][..4] == [0, 1, 2, 3],
+    );
     let mut screen = vec![0; SCREEN_LEN];
     screen[..2].copy_from_slice(&[0x1B, 0x1B]);
-    holds("the twelve: planes", oracle::transfer_data(&screen)[..2] == [0x55, 0x33]);
+    holds(
+        "the twelve: planes",
+        oracle::transfer_data(&screen)[..2] == [0x55, 0x33],
+    );
 
     let cells = cells_after(&[0x21, 1, 1, 2, 3, 3, 3, 3]);
     let only = cells[3][3] == 2 && cells.iter().flatten().sum::<u8>() == 2;
@@ -195,7 +206,10 @@ fn worked_examples(ctx: &mut Ctx) {
     holds("B9 02: the command", answers == [command.to_vec()]);
     holds("B9 02: the block", head(&b) == "02000001010000000001000000");
     let (_, b) = after(&[0x00, 0x30, 0x20]);
-    holds("003020: the block", head(&b) == "00000001000100000101000000");
+    holds(
+        "003020: the block",
+        head(&b) == "00000001000100000101000000",
+    );
     let (_, b) = after(&[0x00, 0x20]);
     holds("00 then 20: no bit", b[RECEIVER] == 1 && b[BIT_INDEX] == 0);
     let cells = cells_after(&[0x39, 19, 17, 2, 0, 0, 0xFF]);
@@ -205,10 +219,15 @@ fn worked_examples(ctx: &mut Ctx) {
     let mut rust = Oracle::post_boot();
     let mut command = [0; 16];
     command[0] = 0x59;
-    generate::encode(&command).iter().for_each(|w| drop(rust.write(*w)));
+    generate::encode(&command)
+        .iter()
+        .for_each(|w| drop(rust.write(*w)));
     let screen = vec![0; SCREEN_LEN];
     let landed = [(); 4].map(|_| rust.screen(&screen));
-    holds("a transfer lands at the third screen", landed == [None, None, Some(0), None]);
+    holds(
+        "a transfer lands at the third screen",
+        landed == [None, None, Some(0), None],
+    );
 }
 
 /// The index after MLT_REQ 2 arrives with this index at its stop pulse, which doesn't raise P15.
