@@ -1,4 +1,4 @@
-//! The leaves of `bits` and `colour`, exhaustively: each byte, pair of bytes and word, and every lent slice up to a few
+//! The leaves of `bits` and `colour` and the packet count, exhaustively: each byte, pair of bytes and word, and every lent slice up to a few
 //! bytes. What the Rust has no function for (`put`, `all_zero`, a pair set in a byte) is held to its plain meaning.
 
 use crate::block;
@@ -6,6 +6,7 @@ use crate::ctx::Ctx;
 use crate::oracle::{self, BorderMapEntry};
 
 unsafe extern "C" {
+    safe fn probe_packet_count(first: u8) -> u8;
     safe fn probe_word(low: u8, high: u8) -> u16;
     safe fn probe_colour(low: u8, high: u8) -> u16;
     safe fn probe_low_byte(w: u16) -> u8;
@@ -26,11 +27,20 @@ unsafe extern "C" {
 }
 
 pub fn run(ctx: &mut Ctx) {
+    counts(ctx);
     words(ctx);
     pairs(ctx);
     planes(ctx);
     copies(ctx);
     zeros(ctx);
+}
+
+/// Every first byte of a command.
+fn counts(ctx: &mut Ctx) {
+    for first in 0..=255u8 {
+        let (port, rust) = (probe_packet_count(first), oracle::packet_count(first));
+        ctx.same(|| format!("packet_count {first:02X}"), port, rust);
+    }
 }
 
 /// Every word, as two bytes, as a colour and as an entry of the border's map.
