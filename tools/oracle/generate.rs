@@ -2,6 +2,7 @@
 //! game sends: uniform noise alone would hardly ever draw a border or complete a command.
 
 use crate::block::*;
+use crate::event::Event;
 use crate::rng::Rng;
 use crate::valid;
 
@@ -379,4 +380,21 @@ fn fault(rng: &mut Rng, writes: &mut Vec<u8>) {
         3 => writes.insert(at, rng.pick(&[0x00, 0x10, 0x20, 0x30])),
         _ => writes.truncate(at + 1),
     }
+}
+
+/// Events of a log: lines of writes, and after some of them as many screens as a transfer needs to land, or fewer.
+pub fn events(rng: &mut Rng, lines: usize) -> Vec<Event> {
+    let mut events = Vec::new();
+    for _ in 0..lines {
+        let transfer = rng.pick(&[0x0B, 0x13, 0x13, 0x14, 0x15]);
+        let n = rng.within(1, 600);
+        let (mut line, screens) = match rng.below(3) {
+            0 => (encode(&command(rng, transfer, 1)), rng.within(1, 4)),
+            _ => (writes(rng, n), rng.below(2)),
+        };
+        line.truncate(SCREEN_LEN);
+        events.push(Event::Writes(line));
+        events.extend((0..screens).map(|_| Event::Screen(screen(rng))));
+    }
+    events
 }

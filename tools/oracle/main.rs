@@ -6,6 +6,7 @@
 
 mod block;
 mod ctx;
+mod event;
 mod generate;
 mod oracle;
 mod rng;
@@ -29,12 +30,9 @@ struct Options {
 fn main() {
     let options = options();
     ctx::hush_panics();
-    let (mut cases, mut failed) = (0, 0);
     let results = run_all(&options);
-    for c in results {
-        cases += c.cases;
-        failed += c.failed;
-    }
+    let cases: u64 = results.iter().map(|c| c.cases).sum();
+    let failed: u64 = results.iter().map(|c| c.failed).sum();
     println!("{} passed, {failed} failed", cases - failed);
     std::process::exit(if failed == 0 { 0 } else { 1 });
 }
@@ -106,7 +104,8 @@ fn run_one(options: &Options, (name, suite): &Suite) -> Ctx {
         text += &format!("\n  {line}");
     }
     if c.failed > 0 {
-        text += &format!("\n  again: --seed {} --suite {name}", options.seed);
+        let Options { seed, scale, .. } = options;
+        text += &format!("\n  again: --seed {seed} --scale {scale} --suite {name}");
     }
     println!("{text}");
     c

@@ -3,6 +3,7 @@
 
 use crate::block::{self, *};
 use crate::ctx::Ctx;
+use crate::event::Event;
 use crate::generate::{self, Class};
 use crate::oracle::{self, BorderMapEntry, Oracle};
 use crate::shrink::{Block, Bytes, List};
@@ -20,12 +21,14 @@ pub fn run(ctx: &mut Ctx) {
 }
 
 fn fresh_blocks(ctx: &mut Ctx) {
-    ctx.same(|| "new".into(), block::new(), Oracle::new().save());
-    let post_boot = Oracle::post_boot().save();
-    ctx.same(|| "post_boot".into(), block::post_boot(), post_boot);
-    for fresh in [block::new(), block::post_boot()] {
-        let valid = valid::check(&fresh);
-        ctx.same(|| "a fresh block is valid".into(), valid, Ok(()));
+    for (name, paper, rust) in [
+        ("new", block::new(), Oracle::new()),
+        ("post_boot", block::post_boot(), Oracle::post_boot()),
+    ] {
+        let differs = block::difference(&paper, &rust.save());
+        ctx.check(differs.is_ok(), || format!("{name}: {differs:?}"));
+        let valid = valid::check(&paper);
+        ctx.check(valid.is_ok(), || format!("{name}: {valid:?}"));
     }
 }
 
@@ -114,33 +117,39 @@ fn every_command(ctx: &mut Ctx) {
     }
 }
 
-/// After random writes and screens the saved block is valid, and holds all that matters of the Rust's state.
+/// After random writes and screens the saved block is valid, and holds all that matters of the Rust's state: a unit loaded
+/// from it before each event answers as the one that went on. Each kind of transfer lands.
 fn steps_stay_valid(ctx: &mut Ctx) {
-    for _ in ctx.rounds(400) {
+    let landings = std::cell::Cell::new([0; 5]);
+    for _ in ctx.rounds(300) {
         let b = generate::block(&mut ctx.rng);
-        let mut writes = generate::rest_of_command(&mut ctx.rng, &b);
-        writes.extend(generate::writes(&mut ctx.rng, 1500));
-        let screens = (0..3)
-            .map(|_| Bytes(generate::screen(&mut ctx.rng)))
-            .collect();
-        let input = (Block(b), List(writes), List(screens));
-        ctx.try_on(input, |(b, writes, screens)| {
+        let rest = generate::rest_of_command(&mut ctx.rng, &b);
+        let mut events = vec![Event::Writes(rest)];
+        events.extend(generate::events(&mut ctx.rng, 4));
+        ctx.try_on((Block(b), List(events)), |(b, events)| {
             let mut rust = Oracle::load(&b.0);
-            let third = writes.0.len().div_ceil(3).max(1);
-            for (i, part) in writes.0.chunks(third).enumerate() {
+            for event in &events.0 {
                 let mut again = Oracle::load(&rust.save());
-                for w in part {
-                    if rust.write(*w) != again.write(*w) {
-                        return Err(format!("the block lacks something: write {w:02X}"));
+                match event {
+                    Event::Writes(writes) => {
+                        for w in writes {
+                            if rust.write(*w) != again.write(*w) {
+                                return Err(format!("the block lacks something: write {w:02X}"));
+                            }
+                        }
                     }
-                }
-                if let Some(screen) = screens.0.get(i) {
-                    let pending = rust.pending();
-                    let landed = rust.screen(&screen.0);
-                    if landed != pending.filter(|p| p.0 == 1).map(|p| p.1) {
-                        return Err(format!("pending {pending:?}, landed {landed:?}"));
+                    Event::Screen(screen) => {
+                        let due = rust.pending().filter(|p| p.0 == 1).map(|p| p.1);
+                        let landed = (rust.screen(screen), again.screen(screen));
+                        if landed != (due, due) {
+                            return Err(format!("due {due:?}, landed {landed:?}"));
+                        }
+                        if let Some(kind) = due {
+                            let mut counts = landings.get();
+                            counts[usize::from(kind)] += 1;
+                            landings.set(counts);
+                        }
                     }
-                    again.screen(&screen.0);
                 }
                 valid::check(&rust.save())?;
                 block::difference(&again.save(), &rust.save())?;
@@ -148,6 +157,9 @@ fn steps_stay_valid(ctx: &mut Ctx) {
             Ok(())
         });
     }
+    let landings = landings.get();
+    ctx.check(landings.iter().all(|n| *n > 0), || "a kind never landed".into());
+    ctx.note(format!("landings of each kind: {landings:?}"));
 }
 
 /// The generator's screen of a page shows that page to the Rust.
