@@ -1,2 +1,7 @@
+pub mod Checks
+pub mod Examples
+pub mod General
+pub mod Keeps
 pub mod Pulses
+pub mod Sound
 pub mod Words

@@ -1,0 +1,29 @@
+-- Document 01's worked examples of the receiver, computed from the definitions.
+use mathlib.Core.Path.{_≡_, refl}
+use mathlib.Core.Bool.{Bool, true, false}
+use mathlib.Core.List.{List, [], _∷_}
+use lib.ListN.{replicate}
+use Prim.Native.Nat.{ℕ}
+use Rattle.bits.specs.Bit.{bitOf}
+use Rattle.receiver.specs.Lines.{p14High, p15High, bothHigh, pulseBy, pulseOf}
+use Rattle.receiver.specs.Receive.{idle, begun, restarted, dataBit, quiet, clocked, whenIdle, whenReceiving, whenAwaiting, pulsed, written}
+use Rattle.receiver.specs.Store.{filed, answerOf, emptied}
+use Rattle.receiver.specs.Port.{Port, answered, wrote, told, heard}
+
+-- as `post_boot` leaves it: both lines high, nothing received
+abbrev booted : Port
+booted = record { p15 = true; both = true; rx = idle; store = replicate 112 0 }
+
+-- the bit index after some writes
+abbrev indexAfter : List ℕ → ℕ
+indexAfter ws = heard booted ws .port .rx .bits
+
+-- "00 30 20": a start pulse, a release, and a data bit
+pub released : indexAfter (0x00 ∷ 0x30 ∷ 0x20 ∷ []) ≡ 1
+unfolding heard told answered wrote written pulsed whenIdle whenReceiving clocked quiet dataBit idle begun filed answerOf emptied pulseOf pulseBy p14High p15High bothHigh bitOf
+released = refl
+
+-- "00 then 20 leaves bit index 0": no release, no clock
+pub not-released : indexAfter (0x00 ∷ 0x20 ∷ []) ≡ 0
+unfolding heard told answered wrote written pulsed whenIdle whenReceiving clocked quiet dataBit idle begun filed answerOf emptied pulseOf pulseBy p14High p15High bothHigh bitOf
+not-released = refl
