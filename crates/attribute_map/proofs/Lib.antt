@@ -1,0 +1,4 @@
+pub mod Grids
+pub mod Packing
+pub mod Painting
+pub mod Sizes

@@ -1,0 +1,43 @@
+-- The answers of the calls are the definition's parts.
+use Rattle.attributes.specs.Blk.{blkCell}
+use borrow.Author.Needs.{needs}
+use Rattle.attributes.proofs.blk.cell.Statement.{statement}
+use Rattle.attributes.proofs.blk.cell.Tie as tie
+
+strictly-requires : tie.Need-strictly-requires
+strictly-requires c κs = search needs
+
+strictly-requires-2 : tie.Need-strictly-requires-2
+strictly-requires-2 c κs = search needs
+
+both-requires : tie.Need-both-requires
+both-requires c κs = search needs
+
+within-requires : tie.Need-within-requires
+within-requires c κs = search needs
+
+within-requires-2 : tie.Need-within-requires-2
+within-requires-2 c κs = search needs
+
+both-requires-2 : tie.Need-both-requires-2
+both-requires-2 c κs = search needs
+
+pick-requires : tie.Need-pick-requires
+pick-requires c κs = search needs
+
+returns : tie.Need-returns
+unfolding blkCell
+returns c = cc
+
+pub cell-spec : {M : Type 1} → statement M
+cell-spec =
+    tie.close
+    (tie.spec
+    strictly-requires
+    strictly-requires-2
+    both-requires
+    within-requires
+    within-requires-2
+    both-requires-2
+    pick-requires
+    returns)

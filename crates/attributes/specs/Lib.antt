@@ -1,0 +1,5 @@
+pub mod Data
+pub mod Blk
+pub mod Lin
+pub mod Div
+pub mod Chr
