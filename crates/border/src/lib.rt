@@ -1,0 +1,124 @@
+// The border: a tile's part, a map entry, the colour at a pixel (document 01, Screens, border and picture). Rust: `SgbBorder`.
+use colour::BorderMapEntry;
+use colour::Rgb555;
+ghost use mathlib.Core.Path.{_≡_};
+ghost use Prim.Native.Nat.{_<_};
+ghost use mathlib.Core.Bool.{true};
+ghost use lib.ListN.{length};
+ghost use Rattle.bits.specs.Bit.{bitAt};
+ghost use Rattle.colour.specs.Entry.{flipX, flipY};
+ghost use Rattle.border.specs.Tile.{tilePart, indexIn};
+ghost use Rattle.border.specs.Border.{entryAt, draws, flipped, indexOf, inPalette, borderAt, colourOf};
+
+pub enum BorderColor {
+    Transparent,
+    Opaque(Rgb555),
+}
+
+// The border's colour at column x and row y of the picture.
+pub fn color_at(tiles: &[u8], map: &[u8], palettes: &[u8], x: usize, y: usize) -> BorderColor
+    requires { ⌜ (length (now tiles) ≡ 8192) × (length (now map) ≡ 1792) × (length (now palettes) ≡ 96) ⌝ }
+    requires { ⌜ (x < 256) × (y < 224) ⌝ }
+    ensures { λ r. ⌜ colourOf r ≡ borderAt (now (tiles .entry)) (now (map .entry)) (now (palettes .entry)) x y ⌝ }
+{
+    let entry = map_entry(map, x / 8, y / 8);
+    let i = index(tiles, entry, x % 8, y % 8);
+    if i == 0 {
+        return BorderColor::Transparent;
+    }
+    BorderColor::Opaque(in_palette(palettes, entry, i))
+}
+
+pub fn map_entry(map: &[u8], column: usize, row: usize) -> BorderMapEntry
+    requires { ⌜ (length (now map) ≡ 1792) × (column < 32) × (row < 28) ⌝ }
+    ensures { λ r. ⌜ r .0 ≡ entryAt (now (map .entry)) column row ⌝ }
+{
+    let at = (row * 32 + column) * 2;
+    BorderMapEntry(bits::word(map[at], map[at + 1]))
+}
+
+// The colour index that an entry shows at column x of row y of its cell.
+fn index(tiles: &[u8], entry: BorderMapEntry, x: usize, y: usize) -> usize
+    requires { ⌜ (length (now tiles) ≡ 8192) × (x < 8) × (y < 8) ⌝ }
+    ensures { λ r. ⌜ (r ≡ indexOf (now (tiles .entry)) (entry .0) x y) × (r < 16) ⌝ }
+{
+    if draws(entry) {
+        let n = entry.tile() as usize;
+        return index_in(tile(tiles, n), row(entry, y), column(entry, x));
+    }
+    0
+}
+
+// Whether an entry names a tile and a palette that transfers load.
+pub fn draws(entry: BorderMapEntry) -> bool
+    ensures { λ r. ⌜ r ≡ draws (entry .0) ⌝ }
+{
+    if entry.tile() > 255 {
+        return false;
+    }
+    let p = entry.palette();
+    if p < 4 {
+        return false;
+    }
+    p <= 6
+}
+
+// The row of its tile that an entry shows in row y of its cell.
+pub fn row(entry: BorderMapEntry, y: usize) -> usize
+    requires { ⌜ y < 8 ⌝ }
+    ensures { λ r. ⌜ (r ≡ flipped (flipY (entry .0)) y) × (r < 8) ⌝ }
+{
+    if entry.flip_y() { 7 - y } else { y }
+}
+
+fn column(entry: BorderMapEntry, x: usize) -> usize
+    requires { ⌜ x < 8 ⌝ }
+    ensures { λ r. ⌜ (r ≡ flipped (flipX (entry .0)) x) × (r < 8) ⌝ }
+{
+    if entry.flip_x() { 7 - x } else { x }
+}
+
+// A tile's 32 bytes of the lent tiles. The empty part exactly if the number is over 255 or the tiles are not 8,192 bytes.
+pub fn tile(tiles: &[u8], n: usize) -> &[u8]
+    ensures { λ r. ⌜ now r ≡ tilePart (now (tiles .entry)) n ⌝ }
+{
+    if tiles.len() != 8192 {
+        return &tiles[..0];
+    }
+    if n > 255 {
+        return &tiles[..0];
+    }
+    let at = n * 32;
+    &tiles[at..at + 32]
+}
+
+// The colour index in a tile: planes 0 and 1 by row, then planes 2 and 3.
+fn index_in(tile: &[u8], row: usize, column: usize) -> usize
+    requires { ⌜ (length (now tile) ≡ 32) × (row < 8) × (column < 8) ⌝ }
+    ensures { λ r. ⌜ (r ≡ indexIn (now (tile .entry)) row column) × (r < 16) ⌝ }
+{
+    let at = row * 2;
+    let k = 7 - column;
+    bit(tile[at], k)
+        + bit(tile[at + 1], k) * 2
+        + bit(tile[at + 16], k) * 4
+        + bit(tile[at + 17], k) * 8
+}
+
+fn bit(b: u8, k: usize) -> usize
+    requires { ⌜ k < 8 ⌝ }
+    ensures { λ r. ⌜ (r ≡ bitAt k b) × (r < 2) ⌝ }
+{
+    bits::wide(b) >> k & 1
+}
+
+// Colour i of an entry's palette.
+fn in_palette(palettes: &[u8], entry: BorderMapEntry, i: usize) -> Rgb555
+    requires { ⌜ (length (now palettes) ≡ 96) × (i < 16) ⌝ }
+    requires { ⌜ draws (entry .0) ≡ true ⌝ }
+    ensures { λ r. ⌜ r .0 ≡ inPalette (now (palettes .entry)) (entry .0) i ⌝ }
+{
+    let p = (entry.palette() - 4) as usize;
+    let at = (p * 16 + i) * 2;
+    Rgb555::from_bytes(palettes[at], palettes[at + 1])
+}

@@ -1,0 +1,10 @@
+-- Which capture is shown. Document 01, Port order and changes of shape: "all 5,760 bytes, the frozen one exactly for mask mode 1";
+-- Refusals by number: the empty part exactly if either capture is not 5,760 bytes. A mask number over 3 shows the live one.
+use Prim.Native.Nat.{ℕ}
+use mathlib.Core.List.{List, []}
+use mathlib.Core.Bool.{cond}
+use lib.ListN.{length}
+use lib.Dec.{eqb}
+
+unfoldable pub displayed : List ℕ → List ℕ → ℕ → List ℕ
+displayed live frozen mode = cond (eqb (length live) 5760) (cond (eqb (length frozen) 5760) (cond (eqb mode 1) frozen live) []) []

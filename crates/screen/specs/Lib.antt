@@ -1,0 +1,3 @@
+pub mod Packed
+pub mod Displayed
+pub mod Colours

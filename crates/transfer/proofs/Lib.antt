@@ -1,0 +1,3 @@
+pub mod Pendings
+pub mod Pages
+pub mod Parts

@@ -1,0 +1,52 @@
+-- The two bytes and the enum say the same, since each number below 5 names one kind; and a transfer lands at the third screen, since the countdown starts at 3.
+-- Assumes nothing.
+use Prim.Native.Nat.{ℕ, zero, suc, _+_, _<_}
+use mathlib.Core.Path.{_≡_, refl}
+use mathlib.Core.Bool.{Bool, true, false}
+use native.Mathlib.Omega.{arith}
+use borrow.Author.Tests.{ne-eqb}
+use native.Mathlib.Nat.{not-suc-le-zero, le-of-suc-le-suc}
+use Rattle.transfer.specs.declared.pending.Transfer.{Transfer}
+use Rattle.transfer.specs.declared.pending.Transfer.the-variants.{Palettes, Attributes, BorderTiles, BorderMap}
+use Rattle.transfer.specs.declared.pending.Pending.the-variants.{Nothing, In}
+use Rattle.transfer.specs.declared.pending.Landed.the-variants as landed
+use Rattle.transfer.specs.Pending.{numberOf, countdownOf, kindOf, named, pendingOf, screened, landing}
+
+-- a pending transfer that is written out and read again
+pub kind-read-back : (n : ℕ) (t : Transfer) → 0 < n → pendingOf n (numberOf t) ≡ In n t
+unfolding pendingOf numberOf
+kind-read-back n t h = let some : n ≡ 0 → ⊥ = λ e. omega arith in rw (ne-eqb n 0 some) (each t)
+  where
+    each : (t : Transfer) → named n (numberOf t) ≡ In n t
+    each Palettes = refl
+    each Attributes = refl
+    each (BorderTiles false) = refl
+    each (BorderTiles true) = refl
+    each BorderMap = refl
+
+-- the two bytes of a valid block (V4), read and written out again
+pub bytes-kept : (n k : ℕ) → 0 < n → k < 5 → (countdownOf (pendingOf n k) ≡ n) × (kindOf (pendingOf n k) ≡ k)
+unfolding pendingOf countdownOf kindOf numberOf
+bytes-kept n k h l = let some : n ≡ 0 → ⊥ = λ e. omega arith in rw (ne-eqb n 0 some) (each k l)
+  where
+    each : (k : ℕ) → k < 5 → (countdownOf (named n k) ≡ n) × (kindOf (named n k) ≡ k)
+    each zero l = (refl, refl)
+    each (suc zero) l = (refl, refl)
+    each (suc (suc zero)) l = (refl, refl)
+    each (suc (suc (suc zero))) l = (refl, refl)
+    each (suc (suc (suc (suc zero)))) l = (refl, refl)
+    each (suc (suc (suc (suc (suc k))))) l =
+        absurd (not-suc-le-zero (le-of-suc-le-suc (le-of-suc-le-suc (le-of-suc-le-suc (le-of-suc-le-suc (le-of-suc-le-suc l))))))
+
+pub nothing-kept : (k : ℕ) → pendingOf 0 k ≡ Nothing
+unfolding pendingOf
+nothing-kept k = refl
+
+-- a transfer command sets the countdown to 3: two screens answer none, the third lands, and nothing is left
+pub third-screen : (t : Transfer)
+    → (landing (In 3 t) ≡ landed.Nothing)
+    × (landing (screened (In 3 t)) ≡ landed.Nothing)
+    × (landing (screened (screened (In 3 t))) ≡ landed.Page t)
+    × (screened (screened (screened (In 3 t))) ≡ Nothing)
+unfolding screened landing
+third-screen t = (refl, refl, refl, refl)

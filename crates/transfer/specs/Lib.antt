@@ -1,0 +1,4 @@
+pub mod Pending
+pub mod Page
+pub mod Landing
+pub mod Passes

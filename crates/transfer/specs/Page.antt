@@ -1,0 +1,17 @@
+-- The page that a screen shows, plane byte by plane byte and pixel by pixel.
+-- Document 01, Screens, border and picture: "The page is tiles 0 to 255, twenty a tile row; each tile eight rows of (low plane, high plane),
+-- leftmost pixel bit 7". Pan Docs, VRAM transfers.
+use Prim.Native.Nat.{ℕ, _+_, _*_, _/_, _%_}
+use mathlib.Core.List.{List}
+use Rattle.bits.specs.Bit.{bitAt}
+use Rattle.bits.specs.Plane.{byteOf}
+use Rattle.bits.specs.Tab.{tab}
+use Rattle.screen.specs.Packed.{shadeAt}
+
+-- plane p (0 low, 1 high) of row r of tile t
+unfoldable pub planeByte : List ℕ → ℕ → ℕ → ℕ → ℕ
+planeByte screen t r p = byteOf (λ j. bitAt p (shadeAt screen (t % 20 * 8 + j) (t / 20 * 8 + r)))
+
+-- sixteen bytes a tile, two a row
+unfoldable pub pageOf : List ℕ → List ℕ
+pageOf screen = tab 4096 (λ k. planeByte screen (k / 16) (k % 16 / 2) (k % 2))

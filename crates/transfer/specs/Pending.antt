@@ -1,0 +1,51 @@
+-- The pending transfer as document 01 has it: two bytes of the block, and what a screen does to it.
+-- Document 01, The unit block (bytes 10 countdown, 11 transfer kind) and Screens, border and picture.
+use Prim.Native.Nat.{ℕ, _-_}
+use mathlib.Core.Bool.{true, false, cond}
+use lib.Dec.{eqb, leb}
+use Rattle.transfer.specs.declared.pending.Transfer.{Transfer}
+use Rattle.transfer.specs.declared.pending.Transfer.the-variants.{Palettes, Attributes, BorderTiles, BorderMap}
+use Rattle.transfer.specs.declared.pending.Pending.{Pending}
+use Rattle.transfer.specs.declared.pending.Pending.the-variants.{Nothing, In}
+use Rattle.transfer.specs.declared.pending.Landed.{Landed}
+use Rattle.transfer.specs.declared.pending.Landed.the-variants as landed
+
+-- the number of each kind (Commands: "pending kinds 0, 1, 2 (3 if d1 bit 0), 4"; the border kind holds its half)
+unfoldable pub numberOf : Transfer → ℕ
+numberOf Palettes = 0
+numberOf Attributes = 1
+numberOf (BorderTiles false) = 2
+numberOf (BorderTiles true) = 3
+numberOf BorderMap = 4
+
+-- byte 10, the countdown, and byte 11, the kind: both 0 where nothing is pending
+unfoldable pub countdownOf : Pending → ℕ
+countdownOf Nothing = 0
+countdownOf (In n t) = n
+
+unfoldable pub kindOf : Pending → ℕ
+kindOf Nothing = 0
+kindOf (In n t) = numberOf t
+
+-- what a countdown and the number of a kind stand for
+abbrev pub named : ℕ → ℕ → Pending
+named n kind =
+    cond (eqb kind 0) (In n Palettes)
+    (cond (eqb kind 1) (In n Attributes)
+    (cond (eqb kind 2) (In n (BorderTiles false))
+    (cond (eqb kind 3) (In n (BorderTiles true))
+    (cond (eqb kind 4) (In n BorderMap) Nothing))))
+
+-- what the two bytes stand for
+unfoldable pub pendingOf : ℕ → ℕ → Pending
+pendingOf n kind = cond (eqb n 0) Nothing (named n kind)
+
+-- a screen: countdown 1 lands, else it falls by one (a countdown of 0 is in no valid block; the Rust lands it too)
+unfoldable pub screened : Pending → Pending
+screened Nothing = Nothing
+screened (In n t) = cond (leb n 1) Nothing (In (n - 1) t)
+
+-- the answer: the kind landed, or none
+unfoldable pub landing : Pending → Landed
+landing Nothing = landed.Nothing
+landing (In n t) = cond (leb n 1) (landed.Page t) landed.Nothing
