@@ -5,5 +5,6 @@ pub mod Painting
 pub mod Pairs
 pub mod Planes
 pub mod Tabs
+pub mod Tests
 pub mod Words
 pub mod Zeros

@@ -1,10 +1,10 @@
 -- A list with a part replaced: its length, its parts, how the kit's `paste` (a copy half done) ends as one, and where it meets other lists.
 use mathlib.Core.Path.{_≡_, sym, ap, ap₂, _∙_}
 use mathlib.Core.List.{List, _++_, append-assoc}
-use Prim.Native.Nat.{ℕ, _+_, _≤_}
+use Prim.Native.Nat.{ℕ, _+_, _≤_, _<_}
 use native.Mathlib.Omega.{arith}
-use lib.ListN.{length, take, drop, length-append, length-take, length-drop, take-append-drop}
-use lib.Seq.{paste, take-length, drop-drop, take-append-le, drop-append-le, take-add}
+use lib.ListN.{length, take, drop, getD, length-append, length-take, length-drop, take-append-drop}
+use lib.Seq.{paste, take-length, drop-drop, take-append-le, drop-append-le, take-add, getD-take, getD-drop}
 use Rattle.bits.specs.Over.{part, over}
 
 pub length-over : (at n : ℕ) (ys b : List ℕ) → at + n ≤ length b → length ys ≡ n → length (over at n ys b) ≡ length b
@@ -36,3 +36,6 @@ over-within at m i n ys b h k =
     over-past at i n ys b
     ∙ ap (λ (d : List ℕ). take at b ++ over i n ys d) (sym (take-append-drop m (drop at b)))
     ∙ ap (λ (l : List ℕ). take at b ++ l) (over-left i n ys (part at m b) (drop m (drop at b)) hl)
+
+pub getD-part : (at n : ℕ) (b : List ℕ) (k : ℕ) → k < n → getD (part at n b) k 0 ≡ getD b (at + k) 0
+getD-part at n b k h = getD-take n (drop at b) k 0 h ∙ getD-drop at b k 0

@@ -1,14 +1,15 @@
 -- A list has nothing but zeros exactly if each element is zero.
-use mathlib.Core.Path.{_≡_, refl, ap, _∙_}
+use mathlib.Core.Path.{_≡_, refl, sym, ap, _∙_}
 use mathlib.Core.Bool.{Bool, true, false, _&&_}
 use mathlib.Core.List.{List, [], _∷_}
 use Prim.Native.Nat.{ℕ, zero, suc, _<_, _≤_, zero-le, suc-le-suc}
 use native.Mathlib.Nat.{not-suc-le-zero, le-of-suc-le-suc}
 use native.Mathlib.Omega.{arith}
-use borrow.Author.Tests.{eq-eqb, ne-eqb}
-use lib.ListN.{length, getD}
+use borrow.Author.Tests.{eq-eqb, ne-eqb, eqb-true}
+use lib.ListN.{length, getD, replicate}
 use lib.Dec.{eqb}
 use Rattle.bits.specs.Zero.{zeros}
+use Rattle.bits.proofs.Tests.{and-left, and-right}
 
 pub zeros-all : (l : List ℕ) → ((k : ℕ) → k < length l → getD l k 0 ≡ 0) → true ≡ zeros l
 unfolding zeros
@@ -24,3 +25,20 @@ unfolding zeros
 zeros-not [] k h n = absurd (not-suc-le-zero h)
 zeros-not (x ∷ xs) zero h n = simp (ne-eqb x 0 n)
 zeros-not (x ∷ xs) (suc k) h n = and-false (eqb x 0) ∙ ap (λ (t : Bool). eqb x 0 && t) (zeros-not xs k (le-of-suc-le-suc h) n)
+
+-- nothing but zeros is so many zeros, and so many zeros are nothing else
+pub zeros-replicate : (l : List ℕ) → zeros l ≡ true → replicate (length l) 0 ≡ l
+unfolding zeros
+zeros-replicate [] e = refl
+zeros-replicate (x ∷ xs) e = λ t. sym (eqb-true x 0 (and-left (eqb x 0) (zeros xs) e)) t ∷ zeros-replicate xs (and-right (eqb x 0) (zeros xs) e) t
+
+pub replicate-zeros : (n : ℕ) → zeros (replicate n 0) ≡ true
+unfolding zeros
+replicate-zeros zero = refl
+replicate-zeros (suc n) = replicate-zeros n
+
+pub zeros-at : (l : List ℕ) → zeros l ≡ true → (k : ℕ) → getD l k 0 ≡ 0
+unfolding zeros
+zeros-at [] e k = refl
+zeros-at (x ∷ xs) e zero = eqb-true x 0 (and-left (eqb x 0) (zeros xs) e)
+zeros-at (x ∷ xs) e (suc k) = zeros-at xs (and-right (eqb x 0) (zeros xs) e) k

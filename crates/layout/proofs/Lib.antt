@@ -1,0 +1,4 @@
+pub mod Cut
+pub mod Fields
+pub mod Saved
+pub mod Goods

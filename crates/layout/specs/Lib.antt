@@ -1,0 +1,6 @@
+pub mod Layout
+pub mod Sgb
+pub mod Block
+pub mod Valid
+pub mod Good
+pub mod Fresh
