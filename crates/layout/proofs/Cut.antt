@@ -112,3 +112,8 @@ heads-eq (suc k) at b h =
     ap (λ (n : ℕ). getD b at 0 ∷ heads k (suc at) b (drop n b)) e
     ∙ ap (λ (l : List ℕ). getD b at 0 ∷ l) (heads-eq k (suc at) b (omega arith))
     ∙ sym (drop-cons b at 0 (omega arith))
+
+-- the parts' lengths are the whole's
+pub length-flat : (ps : List (List ℕ)) → length (flat ps) ≡ sum (map length ps)
+length-flat [] = refl
+length-flat (p ∷ ps) = length-append p (flat ps) ∙ ap (λ (n : ℕ). length p + n) (length-flat ps)

@@ -13,7 +13,7 @@ use lib.ListN.{length, replicate, length-replicate}
 use lib.Pow.{areBytes}
 use Rattle.bits.specs.Zero.{zeros}
 use Rattle.bits.proofs.Tests.{and-left, and-right, and-true, or-either, or-right}
-use Rattle.bits.proofs.Zeros.{zeros-replicate}
+use Rattle.bits.proofs.Zeros.{zeros-replicate, replicate-zeros}
 use Rattle.receiver.specs.Receive.{stageNumber}
 use Rattle.receiver.specs.Store.{bytesOf}
 use Rattle.receiver.specs.declared.Stage.{Stage}
@@ -186,3 +186,25 @@ pending-timed (In n Attributes) h = counts n 1 h refl
 pending-timed (In n (BorderTiles true)) h = counts n 3 h refl
 pending-timed (In n (BorderTiles false)) h = counts n 2 h refl
 pending-timed (In n BorderMap) h = counts n 4 h refl
+
+-- ---- the tests of V2, V3, V5 and V6, of a unit's bytes
+
+pub flag-small : (b : Bool) → leb (flag b) 1 ≡ true
+flag-small true = refl
+flag-small false = refl
+
+pub held-small : (o : Option (List ℕ)) → leb (isHeld o) 1 ≡ true
+unfolding isHeld
+held-small none = refl
+held-small (some l) = refl
+
+pub stage-small : (s : Stage) → leb (stageNumber s) 2 ≡ true
+unfolding stageNumber
+stage-small Idle = refl
+stage-small Receiving = refl
+stage-small Awaiting = refl
+
+pub held-clear : (n : ℕ) (o : Option (List ℕ)) (l : List ℕ) → l ≡ heldBytes n o → cond (eqb (isHeld o) 0) (zeros l) true ≡ true
+unfolding heldBytes isHeld
+held-clear n none l e = ap zeros e ∙ replicate-zeros n
+held-clear n (some x) l e = refl
