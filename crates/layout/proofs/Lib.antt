@@ -2,3 +2,4 @@ pub mod Cut
 pub mod Fields
 pub mod Saved
 pub mod Goods
+pub mod Freshes
