@@ -3,3 +3,5 @@ pub mod Fields
 pub mod Saved
 pub mod Goods
 pub mod Freshes
+pub mod Made
+pub mod Starts
