@@ -1,3 +1,4 @@
+use mathlib.Core.Path.{_∙_}
 -- The answers of the calls are the definition's parts.
 use Rattle.attributes.specs.Blk.{blkCell}
 use borrow.Author.Needs.{needs}
@@ -27,7 +28,10 @@ pick-requires c κs = search needs
 
 returns : tie.Need-returns
 unfolding blkCell
-returns c = cc
+returns c =
+    let l = c .before .before .before .before in
+    c .pick .ensures
+    ∙ rw (l .both .ensures, l .before .strictly2 .ensures, l .before .before .strictly .ensures, c .before .both2 .ensures, c .before .before .within2 .ensures, c .before .before .before .within .ensures)
 
 pub cell-spec : {M : Type 1} → statement M
 cell-spec =

@@ -1,0 +1,5 @@
+pub mod Decoded
+pub mod Finding
+pub mod General
+pub mod Sizes
+pub mod Vectors

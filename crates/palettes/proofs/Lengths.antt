@@ -1,0 +1,38 @@
+-- Every palette command leaves 32 bytes: what it puts is as long as what it replaces.
+use mathlib.Core.Path.{_≡_, _∙_}
+use mathlib.Core.List.{List}
+use Prim.Native.Nat.{ℕ, _+_, _*_, _≤_, _<_}
+use native.Mathlib.Omega.{arith}
+use lib.ListN.{length, length-append}
+use Rattle.bits.specs.Over.{part}
+use Rattle.bits.proofs.Overs.{length-over}
+use Rattle.palettes.specs.Palettes.{paletteBytes, palettesBytes, systemBytes, coloured, shared, palPair, palSet}
+use Rattle.palettes.proofs.Choosing.{length-chosen}
+use Rattle.palettes.proofs.General.{length-part}
+
+length-coloured : (p c n from : ℕ) (d pals : List ℕ) → paletteBytes * p + 2 * c + 2 * n ≤ length pals → from + 2 * n ≤ length d → length (coloured p c n from d pals) ≡ length pals
+length-coloured p c n from d pals h k = length-over (paletteBytes * p + 2 * c) (2 * n) (part from (2 * n) d) pals h (length-part from (2 * n) d k)
+
+length-shared : (d pals : List ℕ) → 16 ≤ length d → length pals ≡ palettesBytes → length (shared d pals) ≡ palettesBytes
+unfolding shared
+length-shared d pals h e =
+    let one = coloured 0 0 1 1 d pals in
+    let two = coloured 1 0 1 1 d one in
+    let three = coloured 2 0 1 1 d two in
+    let a : length one ≡ palettesBytes = length-coloured 0 0 1 1 d pals (omega arith) (omega arith) ∙ e in
+    let b : length two ≡ palettesBytes = length-coloured 1 0 1 1 d one (omega arith) (omega arith) ∙ a in
+    let c : length three ≡ palettesBytes = length-coloured 2 0 1 1 d two (omega arith) (omega arith) ∙ b in
+    length-coloured 3 0 1 1 d three (omega arith) (omega arith) ∙ c
+
+pub length-pal-pair : (a b : ℕ) (d pals : List ℕ) → a < 4 → b < 4 → 16 ≤ length d → length pals ≡ palettesBytes → length (palPair a b d pals) ≡ palettesBytes
+unfolding palPair
+length-pal-pair a b d pals ha hb h e =
+    let s = shared d pals in
+    let f = coloured a 1 3 3 d s in
+    let k : length s ≡ palettesBytes = length-shared d pals h e in
+    let l : length f ≡ palettesBytes = length-coloured a 1 3 3 d s (omega arith) (omega arith) ∙ k in
+    length-coloured b 1 3 9 d f (omega arith) (omega arith) ∙ l
+
+pub length-pal-set : (d system : List ℕ) → length system ≡ systemBytes → length (palSet d system) ≡ palettesBytes
+unfolding palSet
+length-pal-set d system e = simp length-append (omega (arith, length-chosen d system 0 e, length-chosen d system 1 e, length-chosen d system 2 e, length-chosen d system 3 e))

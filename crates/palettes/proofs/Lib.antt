@@ -1,0 +1,4 @@
+pub mod Choosing
+pub mod General
+pub mod Lengths
+pub mod Vectors
