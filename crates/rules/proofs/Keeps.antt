@@ -1,0 +1,180 @@
+-- Every write and every screen keeps a good unit good, and so a valid block valid.
+use mathlib.Core.Path.{_≡_, refl, ap, _∙_}
+use mathlib.Core.Bool.{Bool, true, false, cond, _&&_}
+use mathlib.Core.List.{List, _++_}
+use mathlib.Core.Option.{Option, none, some}
+use Prim.Native.Nat.{ℕ, _+_, _-_, _*_, _<_, _≤_}
+use native.Mathlib.Omega.{arith}
+use borrow.Author.Tests.{leb-false}
+use lib.Dec.{lit≤, leb}
+use lib.ListN.{length, take, drop, length-append, length-take, length-drop}
+use Rattle.bits.proofs.Overs.{length-over, length-part}
+use Rattle.receiver.specs.Lines.{p14High, p15High, bothHigh, pulseOf}
+use Rattle.receiver.specs.Port.{Port, stepAt, filedAt, answered, wrote}
+use Rattle.receiver.specs.Store.{answerOf, Fits}
+use Rattle.receiver.specs.declared.Done.{Done}
+use Rattle.receiver.specs.declared.Done.the-variants.{Nothing, Packet, Command}
+use Rattle.receiver.proofs.Keeps.{v3-sound, wrote-v3, wrote-length}
+use Rattle.receiver.proofs.Sound.{good-written as receiver-good, length-filed}
+use Rattle.transfer.specs.Pending as pending
+use Rattle.transfer.specs.Page.{pageOf}
+use Rattle.transfer.specs.Landing.{palettesLanded, filesLanded, tilesLanded, mapLanded}
+use Rattle.transfer.specs.declared.pending.Pending.{Pending}
+use Rattle.transfer.specs.declared.pending.Pending.the-variants as P
+use Rattle.transfer.specs.declared.pending.Landed.{Landed}
+use Rattle.transfer.specs.declared.pending.Landed.the-variants as L
+use Rattle.transfer.specs.declared.pending.Transfer.the-variants.{Palettes, Attributes, BorderTiles, BorderMap}
+use Rattle.transfer.proofs.Parts.{page-long}
+use Rattle.layout.specs.Layout.{captureBytes}
+use Rattle.layout.specs.Good.{Good, GoodPort, GoodGame, GoodSnes, GoodPending}
+use Rattle.layout.specs.Sgb.{Sgb, Game, Snes}
+use Rattle.rules.specs.Carry.{carriedGame, carriedSnes}
+use Rattle.rules.specs.Write.{advanced, meant, carries, written}
+use Rattle.rules.specs.Screen.{captured, withSystem, withFiles, withTiles, withBorder, landed, landing, shown, screened}
+use Rattle.rules.proofs.Commands.{Keeps, command-keeps, nothing-keeps}
+use Rattle.rules.proofs.Pads.{pads-good, indexed-within}
+
+-- ---- a write
+
+-- "byte 4 is 1 only if byte 3 is": both lines are high only where P15 is
+lines-kept : (v : ℕ) → cond (bothHigh v) (p15High v) true ≡ true
+unfolding bothHigh
+lines-kept v = go (p14High v) (p15High v)
+  where
+    go : (a b : Bool) → cond (a && b) b true ≡ true
+    go true true = refl
+    go true false = refl
+    go false b = refl
+
+port-kept : (p : Port) (v : ℕ) → GoodPort p → GoodPort (wrote p v)
+port-kept p v h = record {
+  lines = unfold wrote in lines-kept v;
+  receiver = wrote-v3 p v (h .store) (h .receiver);
+  store = wrote-length p v (h .store) (v3-sound (p .rx) (p .store) (h .receiver));
+}
+
+-- a command that is complete has 16 to 112 bytes
+pub record Whole (d : List ℕ) : Type 0 where
+  pub least : 16 ≤ length d
+  pub most : length d ≤ 112
+
+abbrev pub WholeIf : Option (List ℕ) → Type 0
+WholeIf none = Unit {0}
+WholeIf (some d) = Whole d
+
+pub answered-whole : (p : Port) (v : ℕ) → GoodPort p → WholeIf (answered p v)
+unfolding answered
+answered-whole p v h =
+    let sound = v3-sound (p .rx) (p .store) (h .receiver) in
+    let fits = receiver-good (p .rx) (pulseOf v) (p .both) sound .1 in
+    go (stepAt p v .done) (filedAt p v) fits (length-filed (stepAt p v .done) (p .rx .packet) (p .store) fits (h .store))
+  where
+    go : (d : Done) (s : List ℕ) → Fits d → length s ≡ 112 → WholeIf (answerOf d s)
+    go Nothing s f l = unfold answerOf in tt
+    go (Packet n) s f l = unfold answerOf in tt
+    go (Command n) s f l = unfold answerOf in record { least = simp length-take (omega arith); most = simp length-take (omega arith) }
+
+pub carries-keeps : (p : Port) (v : ℕ) → GoodPort p → Keeps (carries p v)
+unfolding carries meant
+carries-keeps p v h = go (answered p v) (answered-whole p v h)
+  where
+    go : (o : Option (List ℕ)) → WholeIf o → Keeps (meant o)
+    go none w = nothing-keeps
+    go (some d) w = command-keeps d (w .least)
+
+advanced-good : (p : Port) (v : ℕ) (g : Game) → GoodGame g → GoodGame (advanced p v g)
+unfolding advanced
+advanced-good p v g h = pads-good g _ (g .pads) h (h .pads) (indexed-within (g .index) (g .pads) (p .p15) v (h .pads) (h .index))
+
+pub good-written : (u : Sgb) (v : ℕ) → Good u → Good (written u v)
+good-written u v g =
+    let k = carries-keeps (u .port) v (g .port) in
+    unfold written in
+    record {
+      port = port-kept (u .port) v (g .port);
+      game = k .game (u .snes) (advanced (u .port) v (u .game)) (g .snes) (advanced-good (u .port) v (u .game) (g .game));
+      snes = k .snes (u .snes) (g .snes);
+    }
+
+-- ---- a screen
+
+pending-kept : (p : Pending) → GoodPending p → GoodPending (pending.screened p)
+unfolding pending.screened
+pending-kept P.Nothing h = tt
+pending-kept (P.In n t) h = go (leb n 1) refl
+  where
+    go : (b : Bool) → leb n 1 ≡ b → GoodPending (cond b P.Nothing (P.In (n - 1) t))
+    go true e = tt
+    go false e = let lt : 1 < n = leb-false n 1 e in (omega arith, omega arith)
+
+captured-good : (x : List ℕ) (s : Snes) → length x ≡ captureBytes → GoodSnes s → GoodSnes (captured x s)
+unfolding captured
+captured-good x s l h = record {
+  pending = pending-kept (s .pending) (h .pending);
+  live = l;
+  system = h .system;
+  files = h .files;
+  tiles = h .tiles;
+  borderMap = h .borderMap;
+  borderPalettes = h .borderPalettes;
+}
+
+tiles-good : (l : List ℕ) (s : Snes) → length l ≡ 8192 → GoodSnes s → GoodSnes (withTiles l s)
+unfolding withTiles
+tiles-good l s e h = record {
+  pending = h .pending;
+  live = h .live;
+  system = h .system;
+  files = h .files;
+  tiles = e;
+  borderMap = h .borderMap;
+  borderPalettes = h .borderPalettes;
+}
+
+border-long : (x : List ℕ) → length (mapLanded x) ≡ 1888
+unfolding mapLanded
+border-long x = let e : length (pageOf x) ≡ 4096 = page-long x in simp (length-append, length-take, length-drop) (omega arith)
+
+landed-good : (n : Landed) (x : List ℕ) (s : Snes) → GoodSnes s → GoodSnes (landed n x s)
+unfolding landed withSystem withFiles withBorder palettesLanded filesLanded tilesLanded
+landed-good L.Nothing x s h = h
+landed-good (L.Page Palettes) x s h = record {
+  pending = h .pending;
+  live = h .live;
+  system = page-long x;
+  files = h .files;
+  tiles = h .tiles;
+  borderMap = h .borderMap;
+  borderPalettes = h .borderPalettes;
+}
+landed-good (L.Page Attributes) x s h = record {
+  pending = h .pending;
+  live = h .live;
+  system = h .system;
+  files = let e : length (pageOf x) ≡ 4096 = page-long x in simp length-take (omega arith);
+  tiles = h .tiles;
+  borderMap = h .borderMap;
+  borderPalettes = h .borderPalettes;
+}
+landed-good (L.Page (BorderTiles false)) x s h =
+    tiles-good _ s (length-over 0 4096 (pageOf x) (s .tiles) (omega (arith, h .tiles)) (page-long x) ∙ h .tiles) h
+landed-good (L.Page (BorderTiles true)) x s h =
+    tiles-good _ s (length-over 4096 4096 (pageOf x) (s .tiles) (omega (arith, h .tiles)) (page-long x) ∙ h .tiles) h
+landed-good (L.Page BorderMap) x s h = record {
+  pending = h .pending;
+  live = h .live;
+  system = h .system;
+  files = h .files;
+  tiles = h .tiles;
+  borderMap = let e : length (mapLanded x) ≡ 1888 = border-long x in simp length-take (omega arith);
+  borderPalettes = let e : length (mapLanded x) ≡ 1888 = border-long x in simp length-drop (omega arith);
+}
+
+pub good-screened : (u : Sgb) (x : List ℕ) → length x ≡ captureBytes → Good u → Good (screened u x)
+good-screened u x l g =
+    unfold screened shown in
+    record {
+      port = g .port;
+      game = g .game;
+      snes = landed-good (landing (u .snes)) x (captured x (u .snes)) (captured-good x (u .snes) l (g .snes));
+    }

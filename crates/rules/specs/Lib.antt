@@ -1,0 +1,3 @@
+pub mod Carry
+pub mod Write
+pub mod Screen
