@@ -1,0 +1,4 @@
+pub mod Merge
+pub mod Order
+pub mod BlockOrder
+pub mod Examples
