@@ -42,3 +42,7 @@ unfolding zeros
 zeros-at [] e k = refl
 zeros-at (x ∷ xs) e zero = eqb-true x 0 (and-left (eqb x 0) (zeros xs) e)
 zeros-at (x ∷ xs) e (suc k) = zeros-at xs (and-right (eqb x 0) (zeros xs) e) k
+
+-- a list of which each element is zero is so many zeros
+pub all-zeros : (l : List ℕ) → ((k : ℕ) → k < length l → getD l k 0 ≡ 0) → l ≡ replicate (length l) 0
+all-zeros l h = sym (zeros-replicate l (sym (zeros-all l h)))

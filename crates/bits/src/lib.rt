@@ -2,7 +2,7 @@
 // By shifts and masks (document 01, Which language form to use). The meaning is in specs/, the laws in proofs/.
 ghost use mathlib.Core.Path.{_≡_};
 ghost use Prim.Native.Nat.{_+_, _<_, _≤_};
-ghost use lib.ListN.{length};
+ghost use lib.ListN.{length, replicate};
 ghost use Rattle.bits.specs.Word.{word, lowByte, highByte};
 ghost use Rattle.bits.specs.Pair.{pairOf, withPair};
 ghost use Rattle.bits.specs.Plane.{nibbleOf, planeOf};
@@ -83,6 +83,17 @@ pub fn put(dst: &mut [u8], at: usize, src: &[u8])
     let mut i: usize = 0;
     while i < src.len() {
         dst[at + i] = src[i];
+        i += 1;
+    }
+}
+
+// Nothing but zeros into s.
+pub fn clear(s: &mut [u8])
+    ensures { λ _. ⌜ now (s .exit) ≡ replicate (length (now (s .entry))) 0 ⌝ }
+{
+    let mut i: usize = 0;
+    while i < s.len() {
+        s[i] = 0;
         i += 1;
     }
 }
