@@ -1,10 +1,10 @@
 -- A list with a part replaced: its length, its parts, how the kit's `paste` (a copy half done) ends as one, and where it meets other lists.
 use mathlib.Core.Path.{_≡_, sym, ap, ap₂, _∙_}
-use mathlib.Core.List.{List, _++_, append-assoc}
+use mathlib.Core.List.{List, _++_, append-assoc, append-nil}
 use Prim.Native.Nat.{ℕ, _+_, _≤_, _<_}
 use native.Mathlib.Omega.{arith}
-use lib.ListN.{length, take, drop, getD, length-append, length-take, length-drop, take-append-drop}
-use lib.Seq.{paste, take-length, drop-drop, take-append-le, drop-append-le, take-add, getD-take, getD-drop}
+use lib.ListN.{length, take, drop, getD, length-append, length-take, length-drop, take-append-drop, drop-of-length-le, List·getD-append}
+use lib.Seq.{paste, take-length, drop-drop, take-append-le, drop-append-le, take-add, getD-take, getD-drop, length-take-le, drop-append-add, take-at, drop-at}
 use Rattle.bits.specs.Over.{part, over}
 
 pub length-over : (at n : ℕ) (ys b : List ℕ) → at + n ≤ length b → length ys ≡ n → length (over at n ys b) ≡ length b
@@ -39,3 +39,27 @@ over-within at m i n ys b h k =
 
 pub getD-part : (at n : ℕ) (b : List ℕ) (k : ℕ) → k < n → getD (part at n b) k 0 ≡ getD b (at + k) 0
 getD-part at n b k h = getD-take n (drop at b) k 0 h ∙ getD-drop at b k 0
+
+-- what stands past the part, and before it
+pub drop-over : (at n : ℕ) (ys b : List ℕ) → at ≤ length b → length ys ≡ n → drop (at + n) (over at n ys b) ≡ drop n (drop at b)
+drop-over at n ys b h l =
+    ap (λ (k : ℕ). drop (k + n) (over at n ys b)) (sym (length-take-le at b h))
+    ∙ drop-append-add (take at b) (ys ++ drop n (drop at b)) n
+    ∙ drop-at ys (drop n (drop at b)) n l
+
+pub getD-over : (at n i : ℕ) (ys b : List ℕ) → i < at → at ≤ length b → getD (over at n ys b) i 0 ≡ getD b i 0
+getD-over at n i ys b h l =
+    List·getD-append (take at b) (ys ++ drop n (drop at b)) 0 i (omega (arith, length-take-le at b l)) ∙ getD-take at b i 0 h
+
+-- the whole list; what follows the part x that is done; the rest after the first n
+pub over-all : (n : ℕ) (ys b : List ℕ) → length b ≡ n → over 0 n ys b ≡ ys
+over-all n ys b h = let ge : length b ≤ n = omega arith in ap (λ (x : List ℕ). ys ++ x) (drop-of-length-le b ge) ∙ append-nil ys
+
+pub over-next : (at n : ℕ) (x ys z : List ℕ) → length x ≡ at → over at n ys (x ++ z) ≡ x ++ ys ++ drop n z
+over-next at n x ys z e = rw (take-at x z at e, drop-at x z at e, append-assoc)
+
+pub over-rest : (n m : ℕ) (xs ys b : List ℕ) → length xs ≡ n → length b ≡ n + m → over n m ys (over 0 n xs b) ≡ xs ++ ys
+over-rest n m xs ys b h k =
+    let ge : length (drop n b) ≤ m = simp length-drop (omega arith) in
+    rw (take-at xs (drop n b) n h, drop-at xs (drop n b) n h)
+    (ap (λ (z : List ℕ). xs ++ (ys ++ z)) (drop-of-length-le (drop n b) ge) ∙ ap (λ (z : List ℕ). xs ++ z) (append-nil ys))

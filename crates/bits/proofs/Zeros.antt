@@ -6,7 +6,7 @@ use Prim.Native.Nat.{ℕ, zero, suc, _<_, _≤_, zero-le, suc-le-suc}
 use native.Mathlib.Nat.{not-suc-le-zero, le-of-suc-le-suc}
 use native.Mathlib.Omega.{arith}
 use borrow.Author.Tests.{eq-eqb, ne-eqb, eqb-true}
-use lib.ListN.{length, getD, replicate}
+use lib.ListN.{length, getD, drop, replicate}
 use lib.Dec.{eqb}
 use Rattle.bits.specs.Zero.{zeros}
 use Rattle.bits.proofs.Tests.{and-left, and-right}
@@ -46,3 +46,9 @@ zeros-at (x ∷ xs) e (suc k) = zeros-at xs (and-right (eqb x 0) (zeros xs) e) k
 -- a list of which each element is zero is so many zeros
 pub all-zeros : (l : List ℕ) → ((k : ℕ) → k < length l → getD l k 0 ≡ 0) → l ≡ replicate (length l) 0
 all-zeros l h = sym (zeros-replicate l (sym (zeros-all l h)))
+
+pub zeros-drop : (k : ℕ) (l : List ℕ) → zeros l ≡ true → zeros (drop k l) ≡ true
+unfolding zeros
+zeros-drop zero l h = h
+zeros-drop (suc k) [] h = h
+zeros-drop (suc k) (x ∷ l) h = zeros-drop k l (and-right (eqb x 0) (zeros l) h)

@@ -29,8 +29,8 @@ use Rattle.commands.specs.Command.{find, decode}
 use Rattle.commands.specs.Files.{palSetMap}
 use Rattle.commands.specs.Mask.{cancelled}
 use Rattle.layout.specs.Sgb.{Sgb}
-use Rattle.rules.specs.Carry.{withPads, withPalettes, withMap, withMask, withoutMask, fixedly, sent, carriedGame, carriedSnes}
-use Rattle.rules.specs.Write.{advanced, meant, carries, written}
+use Rattle.rules.specs.Carry.{withPads, withPalettes, withMap, withMask, withoutMask, fixedly, sent, carriedGame, carriedSnes, carried}
+use Rattle.rules.specs.Write.{advanced, meant, carries, stepped, written}
 use Rattle.rules.specs.Screen.{captured, withSystem, landed, landing, shown}
 use Rattle.order.specs.Log.{Event, write, screen, accepts, shownIf, sees, afterWrite, afterScreen, run, writesOf, screensOf, screensBefore, fixedOf, fixedAt}
 use Rattle.order.proofs.Order.{order}
@@ -71,12 +71,12 @@ late = screen shot ∷ write 0x20 ∷ []
 
 -- PAL_SET, 51: its two places differ
 pub pal-set-moves : run (ready 0x51) early ≡ run (ready 0x51) late → ⊥
-unfolding bitOf bitAt pairOf byteOf tab tabFrom word wordAt codeOf countOf p14High p15High bothHigh pulseBy pulseOf indexed receive.idle receive.quiet receive.kept receive.counted receive.stopped receive.clocked receive.whenReceiving receive.pulsed receive.written bytesOf appended filed answerOf emptied answered wrote pairAt planeByte pageOf palettesLanded pending.screened pending.landing systemNumber chosen palSet find decode palSetMap cancelled withPads withPalettes withMap withMask withoutMask fixedly sent carriedGame carriedSnes advanced meant carries written captured withSystem landed landing shown accepts shownIf sees afterWrite afterScreen run
+unfolding bitOf bitAt pairOf byteOf tab tabFrom word wordAt codeOf countOf p14High p15High bothHigh pulseBy pulseOf indexed receive.idle receive.quiet receive.kept receive.counted receive.stopped receive.clocked receive.whenReceiving receive.pulsed receive.written bytesOf appended filed answerOf emptied answered wrote pairAt planeByte pageOf palettesLanded pending.screened pending.landing systemNumber chosen palSet find decode palSetMap cancelled withPads withPalettes withMap withMask withoutMask fixedly sent carriedGame carriedSnes advanced meant carries carried stepped written captured withSystem landed landing shown accepts shownIf sees afterWrite afterScreen run
 pal-set-moves e = let z : _≡_ {A = ℕ} 0 255 = ap (λ o. getD (o .last .game .palettes) 0 0) e in omega arith
 
 -- ATTR_DIV, 31: no write of this log is fixed, so it may be moved past the landing
 pub attr-div-moves : run (ready 0x31) early ≡ run (ready 0x31) late
-unfolding bitOf codeOf countOf p14High p15High bothHigh pulseBy pulseOf receive.idle receive.quiet receive.kept receive.counted receive.stopped receive.clocked receive.whenReceiving receive.pulsed receive.written bytesOf appended filed answerOf answered wrote find decode meant carries written sees fixedOf fixedAt writesOf screensOf
+unfolding bitOf codeOf countOf p14High p15High bothHigh pulseBy pulseOf receive.idle receive.quiet receive.kept receive.counted receive.stopped receive.clocked receive.whenReceiving receive.pulsed receive.written bytesOf appended filed answerOf answered wrote find decode meant carries carried stepped written sees fixedOf fixedAt writesOf screensOf
 attr-div-moves = order (ready 0x31) early late (record { sameWrites = refl; sameScreens = refl; sameBefore = none-fixed })
   where
     none-fixed : (i : ℕ) → IsSome (fixedAt (ready 0x31) early i) → screensBefore early i ≡ screensBefore late i

@@ -6,8 +6,8 @@ use mathlib.Core.Option.{Option, none, some, IsSome}
 use Rattle.receiver.specs.Port.{Port, wrote, answered}
 use Rattle.commands.specs.Command.{Command, plain, fixed, Fixed}
 use Rattle.layout.specs.Sgb.{Sgb, Game, Snes}
-use Rattle.rules.specs.Carry.{carriedGame, carriedSnes, sent}
-use Rattle.rules.specs.Write.{written, answer, carries, advanced}
+use Rattle.rules.specs.Carry.{carriedGame, carriedSnes, carried, sent}
+use Rattle.rules.specs.Write.{stepped, written, answer, carries, advanced}
 use Rattle.order.specs.Log.{Event, write, screen, Seen, seen, shownIf, sees, Outcome, afterWrite, afterScreen, run, writesOf, screensOf, screensBefore, fixedOf, fixedAt, Aligned}
 use Rattle.order.proofs.Merge.{Mark, shows, does, keep, sieve, pickAt, sieve-same}
 
@@ -87,7 +87,7 @@ step (fixed c) s₀ r g s ws m = refl
 
 run-told : (s₀ : Snes) (u : Sgb) (l : List Event)
     → run u l ≡ told s₀ (u .port) (u .game) (writesOf l) (tape (u .snes) (sieve wrote fixes (u .port) l))
-unfolding run told tape receivers answersOf played writesOf sieve sees written answer afterWrite afterScreen fixes
+unfolding run told tape receivers answersOf played writesOf sieve sees carried stepped written answer afterWrite afterScreen fixes
 run-told s₀ u [] = refl
 run-told s₀ u (screen x ∷ l) = ap (afterScreen (seen (u .snes) x)) (run-told s₀ (sees u x) l)
 run-told s₀ u (write w ∷ l) =
@@ -97,7 +97,7 @@ run-told s₀ u (write w ∷ l) =
 
 -- which writes are fixed is told by the writes alone
 fixed-told : (u : Sgb) (l : List Event) (i : ℕ) → fixedAt u l i ≡ pickAt wrote fixes (u .port) (writesOf l) i
-unfolding fixedAt pickAt writesOf written sees fixes
+unfolding fixedAt pickAt writesOf carried stepped written sees fixes
 fixed-told u [] i = refl
 fixed-told u (screen x ∷ l) i = fixed-told (sees u x) l i
 fixed-told u (write w ∷ l) zero = refl

@@ -28,8 +28,9 @@ use Rattle.transfer.proofs.Parts.{page-long}
 use Rattle.layout.specs.Layout.{captureBytes}
 use Rattle.layout.specs.Good.{Good, GoodPort, GoodGame, GoodSnes, GoodPending}
 use Rattle.layout.specs.Sgb.{Sgb, Game, Snes}
-use Rattle.rules.specs.Carry.{carriedGame, carriedSnes}
-use Rattle.rules.specs.Write.{advanced, meant, carries, written}
+use Rattle.commands.specs.Command as command
+use Rattle.rules.specs.Carry.{carriedGame, carriedSnes, carried}
+use Rattle.rules.specs.Write.{advanced, meant, carries, stepped, written}
 use Rattle.rules.specs.Screen.{captured, withSystem, withFiles, withTiles, withBorder, landed, landing, shown, screened}
 use Rattle.rules.proofs.Commands.{Keeps, command-keeps, nothing-keeps}
 use Rattle.rules.proofs.Pads.{pads-good, indexed-within}
@@ -86,15 +87,17 @@ advanced-good : (p : Port) (v : ℕ) (g : Game) → GoodGame g → GoodGame (adv
 unfolding advanced
 advanced-good p v g h = pads-good g _ (g .pads) h (h .pads) (indexed-within (g .index) (g .pads) (p .p15) v (h .pads) (h .index))
 
+pub good-stepped : (u : Sgb) (v : ℕ) → Good u → Good (stepped u v)
+unfolding stepped
+good-stepped u v g = record { port = port-kept (u .port) v (g .port); game = advanced-good (u .port) v (u .game) (g .game); snes = g .snes }
+
+pub good-carried : (c : command.Command) (u : Sgb) → Keeps c → Good u → Good (carried c u)
+unfolding carried
+good-carried c u k g = record { port = g .port; game = k .game (u .snes) (u .game) (g .snes) (g .game); snes = k .snes (u .snes) (g .snes) }
+
 pub good-written : (u : Sgb) (v : ℕ) → Good u → Good (written u v)
-good-written u v g =
-    let k = carries-keeps (u .port) v (g .port) in
-    unfold written in
-    record {
-      port = port-kept (u .port) v (g .port);
-      game = k .game (u .snes) (advanced (u .port) v (u .game)) (g .snes) (advanced-good (u .port) v (u .game) (g .game));
-      snes = k .snes (u .snes) (g .snes);
-    }
+unfolding written
+good-written u v g = good-carried (carries (u .port) v) (stepped u v) (carries-keeps (u .port) v (g .port)) (good-stepped u v g)
 
 -- ---- a screen
 

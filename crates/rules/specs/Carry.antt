@@ -14,7 +14,7 @@ use Rattle.commands.specs.Files.{attrSetMap, palSetMap}
 use Rattle.commands.specs.Maps as maps
 use Rattle.commands.specs.Mask.{cancelled}
 use Rattle.commands.specs.Pads as pads
-use Rattle.layout.specs.Sgb.{Game, Snes}
+use Rattle.layout.specs.Sgb.{Sgb, Game, Snes}
 
 -- ---- the game's part, changed in one place
 
@@ -115,3 +115,7 @@ carriedGame (command.fixed c) s g = fixedly c s g
 unfoldable pub carriedSnes : Command → Snes → Snes
 carriedSnes (command.plain c) s = s
 carriedSnes (command.fixed c) s = sent c s
+
+-- a command carried out: the port is what told it, and stays
+unfoldable pub carried : Command → Sgb → Sgb
+carried c u = record { port = u .port; game = carriedGame c (u .snes) (u .game); snes = carriedSnes c (u .snes) }

@@ -7,7 +7,7 @@ use Rattle.receiver.specs.Lines.{indexed}
 use Rattle.receiver.specs.Port.{Port, wrote, answered}
 use Rattle.commands.specs.Command.{Command, plain, nothing, decode}
 use Rattle.layout.specs.Sgb.{Sgb, Game}
-use Rattle.rules.specs.Carry.{withPads, carriedGame, carriedSnes}
+use Rattle.rules.specs.Carry.{withPads, carried}
 
 -- "if P15 goes low to high, index = (index + 1) AND mask"
 unfoldable pub advanced : Port → ℕ → Game → Game
@@ -21,12 +21,12 @@ meant (some d) = decode d
 unfoldable pub carries : Port → ℕ → Command
 carries p v = meant (answered p v)
 
+-- what a write does before its command is carried out: the port, and the joypad index
+unfoldable pub stepped : Sgb → ℕ → Sgb
+stepped u v = record { port = wrote (u .port) v; game = advanced (u .port) v (u .game); snes = u .snes }
+
 unfoldable pub written : Sgb → ℕ → Sgb
-written u v = record {
-  port = wrote (u .port) v;
-  game = carriedGame (carries (u .port) v) (u .snes) (advanced (u .port) v (u .game));
-  snes = carriedSnes (carries (u .port) v) (u .snes);
-}
+written u v = carried (carries (u .port) v) (stepped u v)
 
 -- the command that is complete, its 16 to 112 bytes, or none
 unfoldable pub answer : Sgb → ℕ → Option (List ℕ)
