@@ -30,8 +30,7 @@ loop-less c = simp length-set (omega arith)
 
 loop-again : tie.Need-loop-again Inv-loop μ-loop
 loop-again c =
-    let l = c .before .loop in
-    (
+    let l = c .before .loop in (
       simp length-set (omega arith),
       (
         simp length-set (l .inv .1 .0),
