@@ -17,7 +17,7 @@ use Rattle.receiver.specs.Count.{countOf}
 use Rattle.receiver.specs.Lines as L
 use Rattle.receiver.specs.Lines.{Pulse, pulseOf}
 use Rattle.receiver.specs.Receive.{Rx, Step, Sound, idle, begun, restarted, dataBit, quiet, kept, counted, stopped, clocked, whenIdle, whenReceiving, whenAwaiting, pulsed, written}
-use Rattle.receiver.specs.Store.{bytesOf, appended, filed, emptied}
+use Rattle.receiver.specs.Store.{bytesOf, appended, filed, emptied, packetsOf}
 use Rattle.receiver.specs.Port.{Port, stepAt, wrote}
 use Rattle.receiver.specs.Valid.{Resting, Coming, Between, First, Later, V3At, V3}
 use Rattle.receiver.proofs.General.{either, zeros-drop, zeros-replicate, drop-over, getD-over}
@@ -166,7 +166,52 @@ written-v3 r p rel s l v = go (r .stage) refl p v
     go Awaiting e L.zero h = v
     go Awaiting e L.release h = v
 
--- ---- a write keeps it, and the store's length
+-- ---- a write that completes a command leaves the receiver idle
+
+abbrev Completes-idle : Step → Type 0
+Completes-idle x = (n : ℕ) → packetsOf (x .done) ≡ suc n → x .next ≡ idle
+
+kept-idle : (r : Rx) (n : ℕ) → Completes-idle (kept r n)
+unfolding kept packetsOf
+kept-idle r n = either Completes-idle (leb n (r .received + 1)) (λ e m h. refl) (λ e m h. absurd (omega arith))
+
+quiet-idle : (r : Rx) → Completes-idle (quiet r)
+unfolding quiet packetsOf
+quiet-idle r m h = absurd (omega arith)
+
+stopped-idle : (r : Rx) → Completes-idle (stopped r)
+unfolding stopped counted
+stopped-idle r =
+    either Completes-idle (eqb (r .received) 0)
+    (λ e. either Completes-idle (eqb (countOf (r .packet % 256)) 0) (λ z. quiet-idle idle) (λ z. kept-idle r _))
+    (λ e. kept-idle r _)
+
+clocked-idle : (r : Rx) (b : ℕ) (rel : Bool) → Completes-idle (clocked r b rel)
+unfolding clocked
+clocked-idle r b rel =
+    either Completes-idle rel
+    (λ e. either Completes-idle (ltb (r .bits) 128) (λ z. quiet-idle (dataBit r b)) (λ z. stopped-idle r))
+    (λ e. quiet-idle r)
+
+pub completes-idle : (r : Rx) (p : Pulse) (rel : Bool) → Completes-idle (written r p rel)
+unfolding written pulsed whenIdle whenReceiving whenAwaiting
+completes-idle r p rel = go (r .stage) p
+  where
+    go : (t : Stage) (q : Pulse) → Completes-idle (pulsed t r q rel)
+    go Idle L.start = quiet-idle (begun 0 0)
+    go Idle L.one = quiet-idle r
+    go Idle L.zero = quiet-idle r
+    go Idle L.release = quiet-idle r
+    go Receiving L.start = quiet-idle (restarted r)
+    go Receiving L.one = clocked-idle r 1 rel
+    go Receiving L.zero = clocked-idle r 0 rel
+    go Receiving L.release = quiet-idle r
+    go Awaiting L.start = quiet-idle (restarted r)
+    go Awaiting L.one = quiet-idle r
+    go Awaiting L.zero = quiet-idle r
+    go Awaiting L.release = quiet-idle r
+
+-- ---- a write keeps V3, and the store's length
 
 pub wrote-v3 : (u : Port) (v : ℕ) → length (u .store) ≡ 112 → V3 (u .rx) (u .store) → V3 (wrote u v .rx) (wrote u v .store)
 unfolding wrote

@@ -5,13 +5,15 @@ use mathlib.Core.List.{List, [], _∷_}
 use mathlib.Core.Option.{Option, none, some}
 use Prim.Native.Nat.{ℕ, zero, suc, _+_, _-_, _*_, _<_, _≤_}
 use native.Mathlib.Omega.{arith}
+use lib.Dec.{lit<}
 use lib.ListN.{length, take, drop, replicate}
 use Rattle.receiver.specs.declared.Done.{Done}
 use Rattle.receiver.specs.declared.Done.the-variants.{Nothing, Packet, Command}
 use Rattle.receiver.specs.Lines.{pulseOf, indexed}
-use Rattle.receiver.specs.Receive.{Rx, Sound}
+use Rattle.receiver.specs.Receive.{Rx, Sound, idle}
 use Rattle.receiver.specs.Store.{answerOf, emptied, packetsOf, Fits}
 use Rattle.receiver.specs.Port.{Port, stepAt, filedAt, answered, wrote, Heard, told, heard}
+use Rattle.receiver.proofs.Keeps.{completes-idle}
 use Rattle.receiver.proofs.Sound.{good-written}
 use Rattle.run.specs.Run.{Ended, lined, onward, runs, cleared, resumed, Ready}
 use Rattle.run.proofs.Turns.{ready-lined}
@@ -57,6 +59,34 @@ ready-runs mask i x u (v ∷ vs) r =
     let s = ready-lined u x mask v r in
     ready-on mask (packetsOf (stepAt u v .done)) (suc i) y (lined u v) (runs mask (suc i) y (lined u v) vs) s
     (ready-runs mask (suc i) y (lined u v) vs s)
+
+-- ---- a command has at most seven packets, and leaves the receiver idle
+
+-- of a run's end
+pub record Complete (e : Ended) : Type 0 where
+  pub few : e .packets < 8
+  pub rests : (n : ℕ) → e .packets ≡ suc n → e .port .rx ≡ idle
+
+few-packets : (d : Done) → Fits d → packetsOf d < 8
+unfolding packetsOf
+few-packets Nothing f = lit< tt
+few-packets (Packet n) f = lit< tt
+few-packets (Command n) f = f .1
+
+complete-on : (n i x : ℕ) (u : Port) (rest : Ended) → n < 8 → ((m : ℕ) → n ≡ suc m → u .rx ≡ idle) → Complete rest → Complete (onward n u x i rest)
+unfolding onward
+complete-on zero i x u rest h f w = w
+complete-on (suc n) i x u rest h f w = record { few = h; rests = f }
+
+pub complete : (mask i x : ℕ) (u : Port) (ws : List ℕ) → Ready u x mask → Complete (runs mask i x u ws)
+unfolding runs lined
+complete mask i x u [] r = record { few = lit< tt; rests = λ n h. absurd (omega arith) }
+complete mask i x u (v ∷ vs) r =
+    let y : ℕ = indexed x mask (u .p15) v in
+    complete-on (packetsOf (stepAt u v .done)) (suc i) y (lined u v) (runs mask (suc i) y (lined u v) vs)
+    (few-packets (stepAt u v .done) (good-written (u .rx) (pulseOf v) (u .both) (r .sound) .1))
+    (completes-idle (u .rx) (pulseOf v) (u .both))
+    (complete mask (suc i) y (lined u v) vs (ready-lined u x mask v r))
 
 -- ---- what is heard
 

@@ -1,0 +1,76 @@
+-- The encoder's three answers are the definition's, by the tests that the code makes; and no two outcomes meet one contract.
+use mathlib.Core.Path.{_≡_, refl, sym, ap, ap₂, _∙_}
+use mathlib.Core.Bool.{Bool, true, false, cond}
+use mathlib.Core.List.{List, _++_}
+use Prim.Native.Nat.{ℕ, _*_, _<_, _≤_}
+use native.Mathlib.Omega.{arith}
+use lib.ListN.{length, drop}
+use borrow.Author.Tests.{lt-ltb, le-ltb}
+use Rattle.pulses.specs.Answer.{Answer, refused, given, encodedAnswer, verdictAnswer}
+use Rattle.pulses.specs.Bytes.{packetsIn, malformed, commandPackets}
+use Rattle.pulses.specs.Encode.{pulsesOf, short, encoding, encoded, Encodes}
+use Rattle.pulses.specs.Verdict.{Judges}
+use Rattle.pulses.specs.declared.Encoded.{Encoded}
+use Rattle.pulses.specs.declared.Encoded.the-variants as E
+use Rattle.pulses.specs.declared.Conformance.{Conformance}
+use Rattle.pulses.specs.declared.Conformance.the-variants as C
+use Rattle.pulses.proofs.Commands.{none-malformed, some-formed}
+
+module _ (c o : List ℕ) (n : ℕ) (e : n ≡ commandPackets c) where
+  pub answers-malformed : n ≡ 0 → Encodes c o E.Malformed o
+  unfolding encodedAnswer encoding encoded
+  answers-malformed z =
+      let m = none-malformed c (sym e ∙ z) in
+      record { answer = rw m; output = rw m }
+
+  pub answers-short : (n ≡ 0 → ⊥) → length o < 260 * n → Encodes c o E.Short o
+  unfolding encodedAnswer encoding encoded short
+  answers-short z h =
+      let f = some-formed c (λ y. z (e ∙ y)) in
+      let k : n ≡ packetsIn c = e ∙ f .1 in
+      let s = lt-ltb (length o) (260 * packetsIn c) (omega arith) in
+      record { answer = rw (f .0 .taken, s); output = rw (f .0 .taken, s) }
+
+  pub answers-writes : (after : List ℕ) → (n ≡ 0 → ⊥) → 260 * n ≤ length o → after ≡ pulsesOf n c ++ drop (260 * n) o
+      → Encodes c o (E.Writes (260 * n)) after
+  unfolding encodedAnswer encoding encoded short
+  answers-writes after z h a =
+      let f = some-formed c (λ y. z (e ∙ y)) in
+      let k : n ≡ packetsIn c = e ∙ f .1 in
+      let s = le-ltb (length o) (260 * packetsIn c) (omega arith) in
+      record {
+        answer = rw (f .0 .taken, s) (ap (λ (j : ℕ). given (260 * j)) k);
+        output = rw (f .0 .taken, s) (a ∙ ap (λ (j : ℕ). pulsesOf j c ++ drop (260 * j) o) k);
+      }
+
+-- ---- two outcomes that a contract allows are equal
+
+one-encoded : (a b : Encoded) → encodedAnswer a ≡ encodedAnswer b → a ≡ b
+unfolding encodedAnswer
+one-encoded E.Malformed E.Malformed h = refl
+one-encoded E.Malformed E.Short h = absurd (let z : _≡_ {A = ℕ} 5 6 = cc in omega arith)
+one-encoded E.Malformed (E.Writes n) h = absurd (let z : _≡_ {A = ℕ} 0 1 = cc in omega arith)
+one-encoded E.Short E.Malformed h = absurd (let z : _≡_ {A = ℕ} 5 6 = cc in omega arith)
+one-encoded E.Short E.Short h = refl
+one-encoded E.Short (E.Writes n) h = absurd (let z : _≡_ {A = ℕ} 0 1 = cc in omega arith)
+one-encoded (E.Writes m) E.Malformed h = absurd (let z : _≡_ {A = ℕ} 0 1 = cc in omega arith)
+one-encoded (E.Writes m) E.Short h = absurd (let z : _≡_ {A = ℕ} 0 1 = cc in omega arith)
+one-encoded (E.Writes m) (E.Writes n) h = ap E.Writes (cc)
+
+one-verdict : (a b : Conformance) → verdictAnswer a ≡ verdictAnswer b → a ≡ b
+unfolding verdictAnswer
+one-verdict C.Malformed C.Malformed h = refl
+one-verdict C.Malformed C.Conforms h = cc
+one-verdict C.Malformed C.Differs h = cc
+one-verdict C.Conforms C.Malformed h = cc
+one-verdict C.Conforms C.Conforms h = refl
+one-verdict C.Conforms C.Differs h = cc
+one-verdict C.Differs C.Malformed h = cc
+one-verdict C.Differs C.Conforms h = cc
+one-verdict C.Differs C.Differs h = refl
+
+pub encode-determined : {c out x y : List ℕ} {a b : Encoded} → Encodes c out a x → Encodes c out b y → (a ≡ b) × (x ≡ y)
+encode-determined {a} {b} p q = (one-encoded a b (p .answer ∙ sym (q .answer)), p .output ∙ sym (q .output))
+
+pub verdict-determined : {c : List ℕ} {a b : Conformance} → Judges c a → Judges c b → a ≡ b
+verdict-determined {a} {b} p q = one-verdict a b (p .answer ∙ sym (q .answer))

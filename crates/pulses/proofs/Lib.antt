@@ -1,0 +1,7 @@
+pub mod Commands
+pub mod Encodes
+pub mod Front
+pub mod Packets
+pub mod Returns
+pub mod Round
+pub mod Sends

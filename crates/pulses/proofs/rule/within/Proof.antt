@@ -1,0 +1,14 @@
+-- The two tests are the definition's.
+use borrow.Author.Tests.{eq-eqb, ne-eqb, le-leb, lt-leb}
+use native.Mathlib.Omega.{arith}
+use Rattle.pulses.proofs.rule.within.Statement.{statement}
+use Rattle.pulses.proofs.rule.within.Tie as tie
+
+returns : tie.Need-returns
+returns c = rw (lt-leb 1 (c .before .args .n) (omega arith))
+
+returns-2 : tie.Need-returns-2
+returns-2 c = rw (le-leb 1 (c .before .args .n) (omega (arith, c .if1 .left)))
+
+pub within-spec : {M : Type 1} → statement M
+within-spec = tie.close (tie.spec returns returns-2)

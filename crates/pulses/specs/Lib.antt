@@ -1,0 +1,5 @@
+pub mod Answer
+pub mod Bytes
+pub mod Encode
+pub mod Trip
+pub mod Verdict

@@ -1,0 +1,31 @@
+-- The way of a command out as pulses and in again: document 01, What the proofs owe a reader, and demand 2: "A command turned into
+-- pulses and received with no earlier packet held comes back unchanged". The theorem is `proofs/Round`'s `round-trip`.
+use Prim.Native.Nat.{ℕ, _*_}
+use mathlib.Core.Path.{_≡_}
+use mathlib.Core.Bool.{true}
+use mathlib.Core.List.{List}
+use lib.ListN.{length, take, replicate}
+use Rattle.receiver.specs.declared.Stage.{Stage}
+use Rattle.receiver.specs.declared.Stage.the-variants.{Idle, Receiving, Awaiting}
+use Rattle.receiver.specs.Receive.{Rx, idle, rxOf}
+use Rattle.receiver.specs.Port.{Port}
+use Rattle.run.specs.declared.Ran.{Ran}
+
+-- no earlier packet is held: idle, or receiving with received 0, at any bit index
+abbrev pub NoneHeldAt : Stage → Rx → Type 0
+NoneHeldAt Idle r = Unit {0}
+NoneHeldAt Receiving r = r .received ≡ 0
+NoneHeldAt Awaiting r = ⊥
+
+abbrev pub NoneHeld : Rx → Type 0
+NoneHeld r = NoneHeldAt (r .stage) r
+
+-- the port at rest: both lines high, the receiver idle, the store empty
+unfoldable pub resting : Port
+resting = record { p15 = true; both = true; rx = idle; store = replicate 112 0 }
+
+-- a run of the code that ended so, with this store, hands back the command c and has gone idle
+pub record Returned (c : List ℕ) (r : Ran) (store : List ℕ) : Type 0 where
+  pub complete : 16 * r .packets ≡ length c
+  pub unchanged : take (length c) store ≡ c
+  pub at-rest : rxOf (r .rx) ≡ idle
