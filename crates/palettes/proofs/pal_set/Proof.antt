@@ -8,7 +8,7 @@ use mathlib.Core.Path.{_≡_, _∙_}
 use lib.ListN.{length}
 use Rattle.bits.specs.Over.{part, over}
 use Rattle.palettes.specs.Palettes.{palettesBytes, chosen}
-use Rattle.palettes.proofs.General.{length-part}
+use Rattle.bits.proofs.Overs.{length-part}
 use Rattle.palettes.proofs.Choosing.{Chosen, chosen-none, chosen-more, chosen-all}
 use borrow.Author.Needs.{needs}
 use Rattle.palettes.proofs.pal_set.Statement.{statement}
