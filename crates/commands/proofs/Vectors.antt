@@ -6,10 +6,10 @@ use Prim.Native.Nat.{ℕ}
 use lib.ListN.{replicate}
 use Rattle.bits.specs.Bit.{bitOf}
 use Rattle.transfer.specs.declared.pending.Transfer.the-variants.{BorderTiles}
-use Rattle.commands.specs.Command as S
 use Rattle.commands.specs.Command.{masking, find, decode}
 use Rattle.commands.specs.Mask.{maskEn, cancelled, cancel}
 use Rattle.commands.specs.Pads.{mltIndex}
+use Rattle.commands.specs.Command as S
 
 -- a packet of two bytes and fourteen zeros
 abbrev sent : ℕ → ℕ → List ℕ

@@ -204,6 +204,7 @@ command-keeps d l =
     pal-set s g hs h =
         unmasked-good _ (getD d 9 0)
         (map-good _ _ (palettes-good g _ h (length-pal-set d (s .system) (hs .system))) (pal-long (getD d 9 0) (s .files) (g .map) (hs .files) (h .map)))
+
     attr-set : (s : Snes) (g : Game) → GoodSnes s → GoodGame g → GoodGame (fixedly (command.attrSet d) s g)
     attr-set s g hs h = unmasked-good _ (getD d 1 0) (map-good g _ h (set-long (getD d 1 0) (s .files) (g .map) (hs .files) (h .map)))
 
