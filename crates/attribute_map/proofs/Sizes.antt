@@ -1,14 +1,14 @@
 -- Owning a `[[u8; 20]; 18]` tells that it is eighteen rows of twenty.
-use Prim.Native.Nat.{ℕ, zero, suc, _<_}
-use native.Mathlib.Nat.{le-of-suc-le-suc, not-suc-le-zero}
 use mathlib.Core.Path.{_≡_}
 use mathlib.Core.List.{List, [], _∷_}
-use lib.ListN.{length, getD}
-use mir.Syntax.{w8}
-use mir.Val.{Val}
+use Prim.Native.Nat.{ℕ, zero, suc, _<_}
+use native.Mathlib.Nat.{le-of-suc-le-suc, not-suc-le-zero}
 use denote.Array.{Array, each}
 use denote.Shadow.{shadow}
 use denote.Plain.{UInt}
+use mir.Syntax.{w8}
+use mir.Val.{Val}
+use lib.ListN.{length, getD}
 use Rattle.attribute_map.specs.Map.{columns, rows, Sized}
 
 rows-long : (xs : List (List ℕ)) (us : List Val) → shadow (each (List ℕ) (Array (UInt w8) columns .own) xs us) → (y : ℕ) → y < length xs → length (getD xs y []) ≡ columns

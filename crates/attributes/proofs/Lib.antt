@@ -1,3 +1,4 @@
 pub mod Places
+pub mod Readings
 pub mod Steps
 pub mod Vectors

@@ -1,15 +1,21 @@
--- Document 01's examples of MLT_REQ, and commands of each sort decoded, computed.
+-- Document 01's examples of MLT_REQ and ATTR_BLK, and commands of each sort decoded, computed.
 use mathlib.Core.Path.{_≡_, refl}
 use mathlib.Core.Bool.{true}
 use mathlib.Core.List.{List, _∷_}
 use Prim.Native.Nat.{ℕ}
-use lib.ListN.{replicate}
+use lib.ListN.{set, replicate}
 use Rattle.bits.specs.Bit.{bitOf}
+use Rattle.bits.specs.Pair.{pairOf, packed}
+use Rattle.bits.specs.Tab.{tab, tabFrom}
+use Rattle.attribute_map.specs.Map.{mapBytes, rowsFrom, grid, pack, unpack}
+use Rattle.attributes.specs.Data.{steps}
+use Rattle.attributes.specs.Blk.{onLine, blkPick, blkCell, setAt, blkMap}
 use Rattle.transfer.specs.declared.pending.Transfer.the-variants.{BorderTiles}
-use Rattle.commands.specs.Command as S
 use Rattle.commands.specs.Command.{masking, find, decode}
+use Rattle.commands.specs.Maps.{attrBlk}
 use Rattle.commands.specs.Mask.{maskEn, cancelled, cancel}
 use Rattle.commands.specs.Pads.{mltIndex}
+use Rattle.commands.specs.Command as S
 
 -- a packet of two bytes and fourteen zeros
 abbrev sent : ℕ → ℕ → List ℕ
@@ -58,3 +64,12 @@ sound = refl
 pub capture-stays : cancel 0x40 (record { mode = 1; frozen = true }) ≡ record { mode = 0; frozen = true }
 unfolding cancel cancelled bitOf
 capture-stays = refl
+
+-- ATTR_BLK on packed bytes: control 1, byte 02, corners (3,3) (3,3) sets that cell only, to 2; control 4, byte 10, x1 5, x2 4 sets all to 1
+pub blk-one-cell : attrBlk (0x21 ∷ 1 ∷ 1 ∷ 0x02 ∷ 3 ∷ 3 ∷ 3 ∷ 3 ∷ replicate 8 0) (replicate mapBytes 0) ≡ set (replicate mapBytes 0) 15 0x02
+unfolding attrBlk pack unpack pairOf packed blkMap setAt blkCell blkPick onLine bitOf steps grid rowsFrom tab tabFrom
+blk-one-cell = refl
+
+pub blk-all : attrBlk (0x21 ∷ 1 ∷ 4 ∷ 0x10 ∷ 5 ∷ 0 ∷ 4 ∷ 17 ∷ replicate 8 0) (replicate mapBytes 0) ≡ replicate mapBytes 0x55
+unfolding attrBlk pack unpack pairOf packed blkMap setAt blkCell blkPick onLine bitOf steps grid rowsFrom tab tabFrom
+blk-all = refl

@@ -41,18 +41,22 @@ row k c = record { code = k; means = c }
 
 abbrev pub table : List ℕ → List Row
 table d =
-    -- PAL01, PAL23, PAL03, PAL12
-    row 0x00 (plain (palPair 0 1 d)) ∷ row 0x01 (plain (palPair 2 3 d)) ∷ row 0x02 (plain (palPair 0 3 d)) ∷ row 0x03 (plain (palPair 1 2 d))
-    -- ATTR_BLK, ATTR_LIN, ATTR_DIV, ATTR_CHR
-    ∷ row 0x04 (plain (attrBlk d)) ∷ row 0x05 (plain (attrLin d)) ∷ row 0x06 (plain (attrDiv d)) ∷ row 0x07 (plain (attrChr d))
-    -- PAL_SET, PAL_TRN
-    ∷ row 0x0A (fixed (palSet d)) ∷ row 0x0B (fixed (transfer Palettes))
-    -- MLT_REQ
-    ∷ row 0x11 (plain (mltReq (getD d 1 0)))
-    -- CHR_TRN (bit 0 of d1: the upper half), PCT_TRN, ATTR_TRN
-    ∷ row 0x13 (fixed (transfer (BorderTiles (bitOf 0 (getD d 1 0))))) ∷ row 0x14 (fixed (transfer BorderMap)) ∷ row 0x15 (fixed (transfer Attributes))
-    -- ATTR_SET, MASK_EN
-    ∷ row 0x16 (fixed (attrSet d)) ∷ row 0x17 (masking (getD d 1 0 % 4))
+    row 0x00 (plain (palPair 0 1 d))  -- PAL01
+    ∷ row 0x01 (plain (palPair 2 3 d))  -- PAL23
+    ∷ row 0x02 (plain (palPair 0 3 d))  -- PAL03
+    ∷ row 0x03 (plain (palPair 1 2 d))  -- PAL12
+    ∷ row 0x04 (plain (attrBlk d))  -- ATTR_BLK
+    ∷ row 0x05 (plain (attrLin d))  -- ATTR_LIN
+    ∷ row 0x06 (plain (attrDiv d))  -- ATTR_DIV
+    ∷ row 0x07 (plain (attrChr d))  -- ATTR_CHR
+    ∷ row 0x0A (fixed (palSet d))  -- PAL_SET
+    ∷ row 0x0B (fixed (transfer Palettes))  -- PAL_TRN
+    ∷ row 0x11 (plain (mltReq (getD d 1 0)))  -- MLT_REQ
+    ∷ row 0x13 (fixed (transfer (BorderTiles (bitOf 0 (getD d 1 0)))))  -- CHR_TRN, bit 0 of d1: the upper half
+    ∷ row 0x14 (fixed (transfer BorderMap))  -- PCT_TRN
+    ∷ row 0x15 (fixed (transfer Attributes))  -- ATTR_TRN
+    ∷ row 0x16 (fixed (attrSet d))  -- ATTR_SET
+    ∷ row 0x17 (masking (getD d 1 0 % 4))  -- MASK_EN
     ∷ []
 
 -- all other codes: nothing

@@ -7,8 +7,9 @@ use native.Mathlib.Omega.{arith}
 use lib.ListN.{length, drop, length-append, drop-of-length-le}
 use lib.Seq.{drop-drop}
 use Rattle.bits.specs.Over.{over}
+use Rattle.bits.proofs.Overs.{length-part}
 use Rattle.palettes.specs.Palettes.{paletteBytes, palettesBytes, systemBytes, systemNumber, chosen, palSet}
-use Rattle.palettes.proofs.General.{length-part, over-next}
+use Rattle.palettes.proofs.General.{over-next}
 
 -- the first i palettes chosen
 unfoldable pub first : List ℕ → List ℕ → ℕ → List ℕ

@@ -5,10 +5,9 @@ use Prim.Native.Nat.{ℕ, _+_, _*_, _≤_, _<_}
 use native.Mathlib.Omega.{arith}
 use lib.ListN.{length, length-append}
 use Rattle.bits.specs.Over.{part}
-use Rattle.bits.proofs.Overs.{length-over}
+use Rattle.bits.proofs.Overs.{length-over, length-part}
 use Rattle.palettes.specs.Palettes.{paletteBytes, palettesBytes, systemBytes, coloured, shared, palPair, palSet}
 use Rattle.palettes.proofs.Choosing.{length-chosen}
-use Rattle.palettes.proofs.General.{length-part}
 
 length-coloured : (p c n from : ℕ) (d pals : List ℕ) → paletteBytes * p + 2 * c + 2 * n ≤ length pals → from + 2 * n ≤ length d → length (coloured p c n from d pals) ≡ length pals
 length-coloured p c n from d pals h k = length-over (paletteBytes * p + 2 * c) (2 * n) (part from (2 * n) d) pals h (length-part from (2 * n) d k)

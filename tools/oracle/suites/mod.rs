@@ -13,4 +13,5 @@ suites! {
     oracle,
     leaves,
     receiver,
+    commands,
 }

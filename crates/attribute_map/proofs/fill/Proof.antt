@@ -1,10 +1,10 @@
 -- Each turn stores the pair of its own cell, and every cell has its turn.
 use Prim.Native.Nat.{_-_, _≤_}
 use native.Mathlib.Omega.{arith}
+use borrow.Author.Needs.{needs}
 use Rattle.attribute_map.specs.Map.{pairAt, unpack}
 use Rattle.attribute_map.proofs.Painting.{Painting, painting-none, painting-turn, painting-row, painting-all}
 use Rattle.attribute_map.proofs.Sizes.{sized}
-use borrow.Author.Needs.{needs}
 use Rattle.attribute_map.proofs.fill.Statement.{statement}
 use Rattle.attribute_map.proofs.fill.Tie as tie
 

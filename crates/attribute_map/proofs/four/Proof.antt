@@ -1,8 +1,8 @@
 -- Each cell keeps two bits, and shifted pairs do not meet, so OR adds them.
-use native.Mathlib.Omega.{arith}
-use Rattle.attribute_map.proofs.Packing.{or-four}
 use Prim.Native.Nat.{_%_}
+use native.Mathlib.Omega.{arith}
 use Rattle.bits.proofs.Masks.{pair-mask}
+use Rattle.attribute_map.proofs.Packing.{or-four}
 use Rattle.attribute_map.proofs.four.Statement.{statement}
 use Rattle.attribute_map.proofs.four.Tie as tie
 

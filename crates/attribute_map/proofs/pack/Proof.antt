@@ -1,15 +1,14 @@
 -- Each turn stores the byte of the next four cells.
-use native.Mathlib.Nat.{add-zero, zero-add}
-use Rattle.bits.proofs.Painting.{painted-count}
-use Prim.Native.Nat.{_-_, _≤_}
-use native.Mathlib.Omega.{arith}
 use mathlib.Core.Path.{_≡_, sym, _∙_}
+use Prim.Native.Nat.{_-_, _≤_}
+use native.Mathlib.Nat.{add-zero, zero-add}
+use native.Mathlib.Omega.{arith}
+use borrow.Author.Needs.{needs}
 use lib.ListN.{length}
+use Rattle.bits.proofs.Painting.{painted-count, painted-none, painted-turn, painted-all, painted-length}
 use Rattle.bits.specs.Pair.{packed}
 use Rattle.bits.specs.Paint.{Painted}
-use Rattle.bits.proofs.Painting.{painted-none, painted-turn, painted-all, painted-length}
 use Rattle.attribute_map.specs.Map.{mapBytes, fourAt, pack}
-use borrow.Author.Needs.{needs}
 use Rattle.attribute_map.proofs.pack.Statement.{statement}
 use Rattle.attribute_map.proofs.pack.Tie as tie
 

@@ -1,11 +1,11 @@
 -- Colour 0 is shared, then each of the two palettes gets its three.
 use mathlib.Core.Path.{_≡_, _∙_}
-use lib.ListN.{length}
-use Rattle.bits.specs.Over.{part}
-use Rattle.palettes.specs.Palettes.{palPair}
-use Rattle.palettes.proofs.General.{length-part}
 use native.Mathlib.Omega.{arith}
 use borrow.Author.Needs.{needs}
+use lib.ListN.{length}
+use Rattle.bits.specs.Over.{part}
+use Rattle.bits.proofs.Overs.{length-part}
+use Rattle.palettes.specs.Palettes.{palPair}
 use Rattle.palettes.proofs.pal_pair.Statement.{statement}
 use Rattle.palettes.proofs.pal_pair.Tie as tie
 

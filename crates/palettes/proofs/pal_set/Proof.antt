@@ -1,16 +1,13 @@
-use Prim.Native.Nat.{_+_}
-use lib.ListN.{length-take, length-drop}
-use Rattle.bits.proofs.Overs.{length-over}
 -- Each turn puts the next chosen palette behind those that are there.
-use Prim.Native.Nat.{_≤_, _-_, _*_}
-use native.Mathlib.Omega.{arith}
 use mathlib.Core.Path.{_≡_, _∙_}
-use lib.ListN.{length}
+use Prim.Native.Nat.{_+_, _≤_, _-_, _*_}
+use native.Mathlib.Omega.{arith}
+use borrow.Author.Needs.{needs}
+use lib.ListN.{length-take, length-drop, length}
+use Rattle.bits.proofs.Overs.{length-over, length-part}
 use Rattle.bits.specs.Over.{part, over}
 use Rattle.palettes.specs.Palettes.{palettesBytes, chosen}
-use Rattle.palettes.proofs.General.{length-part}
 use Rattle.palettes.proofs.Choosing.{Chosen, chosen-none, chosen-more, chosen-all}
-use borrow.Author.Needs.{needs}
 use Rattle.palettes.proofs.pal_set.Statement.{statement}
 use Rattle.palettes.proofs.pal_set.Tie as tie
 

@@ -1,11 +1,11 @@
 -- The colour is put at the start of each palette, one after another.
 use mathlib.Core.Path.{_≡_, _∙_}
-use lib.ListN.{length}
-use Rattle.bits.specs.Over.{part}
-use Rattle.palettes.specs.Palettes.{shared}
-use Rattle.palettes.proofs.General.{length-part}
 use native.Mathlib.Omega.{arith}
 use borrow.Author.Needs.{needs}
+use lib.ListN.{length}
+use Rattle.bits.specs.Over.{part}
+use Rattle.bits.proofs.Overs.{length-part}
+use Rattle.palettes.specs.Palettes.{shared}
 use Rattle.palettes.proofs.share.Statement.{statement}
 use Rattle.palettes.proofs.share.Tie as tie
 

@@ -1,10 +1,10 @@
 -- Nine bits of the word at 1 + 2 i.
 use mathlib.Core.Path.{_∙_}
 use native.Mathlib.Omega.{arith}
+use borrow.Author.Needs.{needs}
 use lib.Bits.{and-mask, mask-lt}
 use Rattle.bits.specs.Word.{wordAt}
 use Rattle.palettes.specs.Palettes.{systemNumber}
-use borrow.Author.Needs.{needs}
 use Rattle.palettes.proofs.system_number.Statement.{statement}
 use Rattle.palettes.proofs.system_number.Tie as tie
 

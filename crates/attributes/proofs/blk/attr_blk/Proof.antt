@@ -1,12 +1,12 @@
 -- Each turn does the next set, and the turns end where the announced sets or the whole ones do.
+use mathlib.Core.Path.{ap, _∙_}
 use Prim.Native.Nat.{_≤_, _+_, _-_, _*_}
 use native.Mathlib.Omega.{arith}
-use mathlib.Core.Path.{ap, _∙_}
+use borrow.Author.Needs.{needs}
 use lib.ListN.{length}
 use Rattle.attributes.specs.Data.{changed, steps}
 use Rattle.attributes.specs.Blk.{blkCell, setAt, blkMap}
 use Rattle.attributes.proofs.Steps.{After, after-none, after-more}
-use borrow.Author.Needs.{needs}
 use Rattle.attributes.proofs.blk.attr_blk.Statement.{statement}
 use Rattle.attributes.proofs.blk.attr_blk.Tie as tie
 

@@ -1,7 +1,7 @@
-use mathlib.Core.Path.{_∙_}
 -- The answers of the calls are the definition's parts.
-use Rattle.attributes.specs.Blk.{blkCell}
+use mathlib.Core.Path.{_∙_}
 use borrow.Author.Needs.{needs}
+use Rattle.attributes.specs.Blk.{blkCell}
 use Rattle.attributes.proofs.blk.cell.Statement.{statement}
 use Rattle.attributes.proofs.blk.cell.Tie as tie
 

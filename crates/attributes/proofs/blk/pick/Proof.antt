@@ -1,9 +1,9 @@
 -- Each return is the case of the definition that its tests leave.
 use mathlib.Core.Path.{_∙_}
 use native.Mathlib.Nat.{div-one}
+use borrow.Author.Needs.{needs}
 use Rattle.bits.proofs.Masks.{bit-set, bit-clear, pair-mask}
 use Rattle.attributes.specs.Blk.{blkPick}
-use borrow.Author.Needs.{needs}
 use Rattle.attributes.proofs.blk.pick.Statement.{statement}
 use Rattle.attributes.proofs.blk.pick.Tie as tie
 

@@ -1,7 +1,7 @@
 -- The six bytes are read where the set stands.
 use mathlib.Core.Path.{refl}
-use Rattle.attributes.specs.Blk.{setAt}
 use borrow.Author.Needs.{needs}
+use Rattle.attributes.specs.Blk.{setAt}
 use Rattle.attributes.proofs.blk.set_at.Statement.{statement}
 use Rattle.attributes.proofs.blk.set_at.Tie as tie
 

@@ -1,8 +1,8 @@
-use mathlib.Core.Path.{_∙_}
 -- The bytes read are the definition's, and a pair that is announced and held is within the data.
+use mathlib.Core.Path.{_∙_}
+use borrow.Author.Needs.{needs}
 use Rattle.bits.specs.Word.{word, wordAt}
 use Rattle.attributes.specs.Chr.{chrMap}
-use borrow.Author.Needs.{needs}
 use Rattle.attributes.proofs.chr.attr_chr.Statement.{statement}
 use Rattle.attributes.proofs.chr.attr_chr.Tie as tie
 

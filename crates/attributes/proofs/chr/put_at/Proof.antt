@@ -1,7 +1,7 @@
 -- A place is on the map exactly where both tests say so.
 use borrow.Author.Tests.{lt-ltb, le-ltb}
-use Rattle.attributes.specs.Chr.{putAt}
 use borrow.Author.Needs.{needs}
+use Rattle.attributes.specs.Chr.{putAt}
 use Rattle.attributes.proofs.chr.put_at.Statement.{statement}
 use Rattle.attributes.proofs.chr.put_at.Tie as tie
 

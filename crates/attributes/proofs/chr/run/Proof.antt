@@ -1,12 +1,12 @@
 -- Each turn puts the next pair at its place and goes on to the place after it.
+use mathlib.Core.Path.{ap, _∙_}
 use Prim.Native.Nat.{_≤_, _+_, _-_}
 use native.Mathlib.Omega.{arith}
-use mathlib.Core.Path.{ap, _∙_}
+use borrow.Author.Needs.{needs}
 use Rattle.attributes.specs.Data.{steps}
 use Rattle.attributes.specs.Chr.{placeOf, putAt, pairOfData}
 use Rattle.attributes.proofs.Steps.{After, after-none, after-more}
 use Rattle.attributes.proofs.Places.{Placed, placed-none, placed-more, Near, near-next}
-use borrow.Author.Needs.{needs}
 use Rattle.attributes.proofs.chr.run.Statement.{statement}
 use Rattle.attributes.proofs.chr.run.Tie as tie
 

@@ -1,6 +1,6 @@
 -- The two bytes are the definition's.
-use Rattle.attributes.specs.Div.{divMap}
 use borrow.Author.Needs.{needs}
+use Rattle.attributes.specs.Div.{divMap}
 use Rattle.attributes.proofs.div.attr_div.Statement.{statement}
 use Rattle.attributes.proofs.div.attr_div.Tie as tie
 

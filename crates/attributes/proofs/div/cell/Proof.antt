@@ -1,8 +1,8 @@
 -- The flag picks the row or the column.
 use mathlib.Core.Path.{_∙_}
+use borrow.Author.Needs.{needs}
 use Rattle.bits.proofs.Masks.{bit-set, bit-clear}
 use Rattle.attributes.specs.Div.{divCell}
-use borrow.Author.Needs.{needs}
 use Rattle.attributes.proofs.div.cell.Statement.{statement}
 use Rattle.attributes.proofs.div.cell.Tie as tie
 

@@ -1,6 +1,6 @@
 -- Each return is the case of the definition that its tests leave.
-use borrow.Author.Tests.{lt-ltb, le-ltb, eq-eqb, ne-eqb}
 use native.Mathlib.Nat.{div-one}
+use borrow.Author.Tests.{lt-ltb, le-ltb, eq-eqb, ne-eqb}
 use Rattle.bits.proofs.Masks.{pair-mask}
 use Rattle.attributes.specs.Div.{sideOf}
 use Rattle.attributes.proofs.div.side.Statement.{statement}

@@ -1,12 +1,12 @@
 -- Each turn does the next byte's line, and the turns end where the announced bytes or the data do.
+use mathlib.Core.Path.{ap, _∙_}
 use Prim.Native.Nat.{_≤_, _+_, _-_}
 use native.Mathlib.Omega.{arith}
-use mathlib.Core.Path.{ap, _∙_}
+use borrow.Author.Needs.{needs}
 use lib.ListN.{length, getD}
 use Rattle.attributes.specs.Data.{changed, steps}
 use Rattle.attributes.specs.Lin.{linCell, linMap}
 use Rattle.attributes.proofs.Steps.{After, after-none, after-more}
-use borrow.Author.Needs.{needs}
 use Rattle.attributes.proofs.lin.attr_lin.Statement.{statement}
 use Rattle.attributes.proofs.lin.attr_lin.Tie as tie
 

@@ -1,11 +1,11 @@
+-- Each return is the case of the definition that its tests leave.
 use mathlib.Core.Path.{_≡_}
 use Prim.Native.Nat.{_%_}
--- Each return is the case of the definition that its tests leave.
 use borrow.Author.Tests.{eq-eqb, ne-eqb}
+use borrow.Author.Needs.{needs}
 use lib.Bits.{and-mask}
 use Rattle.bits.proofs.Masks.{bit-set, bit-clear, pair-mask}
 use Rattle.attributes.specs.Lin.{linCell}
-use borrow.Author.Needs.{needs}
 use Rattle.attributes.proofs.lin.cell.Statement.{statement}
 use Rattle.attributes.proofs.lin.cell.Tie as tie
 

@@ -1,11 +1,11 @@
 -- Each turn stores what the rule gives for its own cell, and every cell has its turn.
 use Prim.Native.Nat.{_-_, _≤_}
 use native.Mathlib.Omega.{arith}
+use borrow.Author.Needs.{needs}
 use Rattle.attribute_map.specs.Map.{cell}
 use Rattle.attribute_map.proofs.Painting.{Painting, painting-none, painting-turn, painting-row, painting-all}
 use Rattle.attribute_map.proofs.Sizes.{sized}
 use Rattle.attributes.specs.Lin.{linCell}
-use borrow.Author.Needs.{needs}
 use Rattle.attributes.proofs.lin.line.Statement.{statement}
 use Rattle.attributes.proofs.lin.line.Tie as tie
 

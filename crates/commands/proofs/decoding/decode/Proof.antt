@@ -1,12 +1,12 @@
-use Prim.Native.Nat.{_/_}
-use lib.ListN.{getD}
 -- In each arm the code is known, so the table is looked up by computing; in the last it is none of the table's.
 use mathlib.Core.Path.{sym, _∙_}
+use Prim.Native.Nat.{_/_}
+use borrow.Author.Needs.{needs}
+use lib.ListN.{getD}
 use Rattle.bits.proofs.Masks.{flag, pair-mask}
 use Rattle.commands.specs.Command.{table, find, decode}
 use Rattle.commands.specs.Told.{told, toldPlain, toldFixed}
 use Rattle.commands.proofs.Finding.{find-none}
-use borrow.Author.Needs.{needs}
 use Rattle.commands.proofs.decoding.decode.Statement.{statement}
 use Rattle.commands.proofs.decoding.decode.Tie as tie
 

@@ -1,17 +1,15 @@
-use Prim.Native.Nat.{_+_, _-_, _*_}
-use native.Mathlib.Omega.{arith}
-use lib.ListN.{length}
-use Rattle.bits.specs.Over.{part, over}
-use Rattle.bits.proofs.Overs.{length-part}
-use Rattle.commands.specs.Files.{fileCount}
-use Rattle.commands.proofs.General.{over-all}
 -- A file below 45 is put over the whole map; another leaves it.
 use mathlib.Core.Path.{_≡_, _∙_}
-use Prim.Native.Nat.{_%_, _<_, _≤_}
-use lib.Bits.{and-mask}
+use Prim.Native.Nat.{_+_, _-_, _*_, _%_, _<_, _≤_}
+use native.Mathlib.Omega.{arith}
 use borrow.Author.Tests.{lt-ltb, le-ltb}
-use Rattle.commands.specs.Files.{fileOf, attrSetMap}
 use borrow.Author.Needs.{needs}
+use lib.ListN.{length}
+use lib.Bits.{and-mask}
+use Rattle.bits.specs.Over.{part, over}
+use Rattle.bits.proofs.Overs.{length-part}
+use Rattle.commands.specs.Files.{fileCount, fileOf, attrSetMap}
+use Rattle.commands.proofs.General.{over-all}
 use Rattle.commands.proofs.files.attr_set_map.Statement.{statement}
 use Rattle.commands.proofs.files.attr_set_map.Tie as tie
 

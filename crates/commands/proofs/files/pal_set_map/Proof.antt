@@ -1,8 +1,8 @@
 -- The flag asks for the file or leaves the map.
 use mathlib.Core.Path.{_∙_}
+use borrow.Author.Needs.{needs}
 use Rattle.bits.proofs.Masks.{bit-set, bit-clear}
 use Rattle.commands.specs.Files.{palSetMap}
-use borrow.Author.Needs.{needs}
 use Rattle.commands.proofs.files.pal_set_map.Statement.{statement}
 use Rattle.commands.proofs.files.pal_set_map.Tie as tie
 

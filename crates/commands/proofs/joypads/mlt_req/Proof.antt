@@ -1,10 +1,10 @@
 -- At mask 2 the wrapping sum is masked, else the index itself.
-use Prim.Native.Nat.{_%_}
 use mathlib.Core.Path.{_≡_, sym, _∙_}
+use Prim.Native.Nat.{_%_}
 use borrow.Author.Tests.{eq-eqb, ne-eqb}
+use borrow.Author.Needs.{needs}
 use Rattle.bits.proofs.Masks.{pair-mask}
 use Rattle.commands.specs.Pads.{mltIndex, mltReq}
-use borrow.Author.Needs.{needs}
 use Rattle.commands.proofs.joypads.mlt_req.Statement.{statement}
 use Rattle.commands.proofs.joypads.mlt_req.Tie as tie
 

@@ -1,7 +1,7 @@
 -- Unpacked, changed, packed: each call's answer is the next one's question.
 use mathlib.Core.Path.{_∙_}
-use Rattle.commands.specs.Maps.{attrChr}
 use borrow.Author.Needs.{needs}
+use Rattle.commands.specs.Maps.{attrChr}
 use Rattle.commands.proofs.maps.attr_chr.Statement.{statement}
 use Rattle.commands.proofs.maps.attr_chr.Tie as tie
 

@@ -1,7 +1,7 @@
 -- Whatever the map held, every cell is told by the command.
 use mathlib.Core.Path.{_∙_}
-use Rattle.commands.specs.Maps.{attrDiv}
 use borrow.Author.Needs.{needs}
+use Rattle.commands.specs.Maps.{attrDiv}
 use Rattle.commands.proofs.maps.attr_div.Statement.{statement}
 use Rattle.commands.proofs.maps.attr_div.Tie as tie
 

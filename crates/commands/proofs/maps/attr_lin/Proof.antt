@@ -1,7 +1,7 @@
 -- Unpacked, changed, packed: each call's answer is the next one's question.
 use mathlib.Core.Path.{_∙_}
-use Rattle.commands.specs.Maps.{attrLin}
 use borrow.Author.Needs.{needs}
+use Rattle.commands.specs.Maps.{attrLin}
 use Rattle.commands.proofs.maps.attr_lin.Statement.{statement}
 use Rattle.commands.proofs.maps.attr_lin.Tie as tie
 

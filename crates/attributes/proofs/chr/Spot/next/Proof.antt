@@ -1,7 +1,7 @@
 -- Each return is the case of the definition that its tests leave.
 use borrow.Author.Tests.{lt-ltb, le-ltb}
-use Rattle.attributes.specs.Chr.{next}
 use borrow.Author.Needs.{needs}
+use Rattle.attributes.specs.Chr.{next}
 use Rattle.attributes.proofs.chr.Spot.next.Statement.{statement}
 use Rattle.attributes.proofs.chr.Spot.next.Tie as tie
 
