@@ -12,4 +12,5 @@ macro_rules! suites {
 suites! {
     oracle,
     leaves,
+    picture,
 }
