@@ -27,10 +27,11 @@ pub fn indices(tiles: &[u8], spreads: &[u32], entry: BorderMapEntry, y: usize) -
     if border::draws(entry) {
         let n = entry.tile() as usize;
         let right = entry.flip_x();
+        let flip_y = entry.flip_y();
         return indices_in(
             border::tile(tiles, n),
             spreads,
-            border::row(entry, y),
+            border::flipped(flip_y, y),
             right,
         );
     }
