@@ -6,7 +6,6 @@ ghost use Prim.Native.Nat.{_<_};
 ghost use mathlib.Core.Bool.{true};
 ghost use lib.ListN.{length};
 ghost use Rattle.bits.specs.Bit.{bitAt};
-ghost use Rattle.colour.specs.Entry.{flipX, flipY};
 ghost use Rattle.border.specs.Tile.{tilePart, indexIn};
 ghost use Rattle.border.specs.Border.{entryAt, draws, flipped, indexOf, inPalette, borderAt, colourOf};
 
@@ -44,7 +43,9 @@ fn index(tiles: &[u8], entry: BorderMapEntry, x: usize, y: usize) -> usize
 {
     if draws(entry) {
         let n = entry.tile() as usize;
-        return index_in(tile(tiles, n), row(entry, y), column(entry, x));
+        let flip_x = entry.flip_x();
+        let flip_y = entry.flip_y();
+        return index_in(tile(tiles, n), flipped(flip_y, y), flipped(flip_x, x));
     }
     0
 }
@@ -63,19 +64,12 @@ pub fn draws(entry: BorderMapEntry) -> bool
     p <= 6
 }
 
-// The row of its tile that an entry shows in row y of its cell.
-pub fn row(entry: BorderMapEntry, y: usize) -> usize
-    requires { ⌜ y < 8 ⌝ }
-    ensures { λ r. ⌜ (r ≡ flipped (flipY (entry .0)) y) × (r < 8) ⌝ }
+// A row or a column of a cell, as a flip has it.
+pub fn flipped(flip: bool, k: usize) -> usize
+    requires { ⌜ k < 8 ⌝ }
+    ensures { λ r. ⌜ (r ≡ flipped flip k) × (r < 8) ⌝ }
 {
-    if entry.flip_y() { 7 - y } else { y }
-}
-
-fn column(entry: BorderMapEntry, x: usize) -> usize
-    requires { ⌜ x < 8 ⌝ }
-    ensures { λ r. ⌜ (r ≡ flipped (flipX (entry .0)) x) × (r < 8) ⌝ }
-{
-    if entry.flip_x() { 7 - x } else { x }
+    if flip { 7 - k } else { k }
 }
 
 // A tile's 32 bytes of the lent tiles. The empty part exactly if the number is over 255 or the tiles are not 8,192 bytes.

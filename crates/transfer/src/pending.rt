@@ -113,13 +113,13 @@ impl Pending {
                 countdown,
                 transfer,
             } => {
-                if countdown <= 1 {
-                    return Pending::Nothing;
+                if countdown > 1 {
+                    return Pending::In {
+                        countdown: countdown - 1,
+                        transfer: transfer,
+                    };
                 }
-                Pending::In {
-                    countdown: countdown - 1,
-                    transfer: transfer,
-                }
+                Pending::Nothing
             }
         }
     }

@@ -14,4 +14,5 @@ suites! {
     leaves,
     receiver,
     commands,
+    picture,
 }

@@ -11,12 +11,12 @@ enum-told c = search needs
 enum-known-self : tie.Need-enum-known-self
 enum-known-self c = search needs
 
-returns : tie.Need-returns
-unfolding screened
-returns c = rw (c .before .before .self .given .1, le-leb _ _ (c .if1 .taken))
-
 sub-t6 : tie.Need-sub-t6
 sub-t6 c = search needs
+
+returns : tie.Need-returns
+unfolding screened
+returns c = rw (c .before .before .self .given .1, lt-leb _ _ (c .if1 .taken))
 
 returns-2 : tie.Need-returns-2
 unfolding screened
@@ -24,7 +24,7 @@ returns-2 c = rw (c .enum-told .given .1)
 
 returns-3 : tie.Need-returns-3
 unfolding screened
-returns-3 c = rw (c .before .before .self .given .1, lt-leb _ _ (c .if1 .left))
+returns-3 c = rw (c .before .before .self .given .1, le-leb _ _ (c .if1 .left))
 
 pub screened-spec : {M : Type 1} → statement M
-screened-spec = tie.close (tie.spec enum-told enum-known-self returns sub-t6 returns-2 returns-3)
+screened-spec = tie.close (tie.spec enum-told enum-known-self sub-t6 returns returns-2 returns-3)

@@ -1,0 +1,174 @@
+-- A row drawn from the tables is the row of the picture, pixel by pixel: the tables have the colours that the definition names.
+-- Assumes nothing.
+use Prim.Native.Nat.{ℕ, zero, suc, _+_, _-_, _*_, _/_, _%_, _<_, _≤_}
+use native.Mathlib.Omega.{arith}
+use mathlib.Core.Path.{_≡_, refl, sym, _∙_, ap, ap₂}
+use mathlib.Core.Bool.{Bool, true, false, cond, _&&_, false≢true}
+use mathlib.Core.List.{List, _++_}
+use mathlib.Core.Option.{Option, none, some, Option·getD}
+use lib.Dec.{ltb, leb, eqb}
+use lib.ListN.{length, getD, drop}
+use borrow.Author.Tests.{le-leb, lt-ltb, ne-eqb, leb-true, ltb-true}
+use Rattle.bits.specs.Word.{wordAt}
+use Rattle.bits.specs.Tab.{tab}
+use Rattle.bits.specs.Paint.{Painted}
+use Rattle.bits.proofs.Tabs.{getD-tab, length-tab}
+use Rattle.bits.proofs.Pairs.{pair-lt}
+use Rattle.bits.proofs.Painting.{painted-same, painted-tab, painted-run, painted-count}
+use Rattle.colour.specs.Entry.{tileOf, paletteOf, flipX, flipY}
+use Rattle.screen.specs.Packed.{pairAt, cellAt}
+use Rattle.screen.specs.Colours.{backdropOf, maskedOf, screenPixel}
+use Rattle.border.specs.Tile.{tilePart, indexIn}
+use Rattle.border.specs.Border.{entryAt, draws, flipped, indexOf, inPalette, opaque, borderAt}
+use Rattle.border.proofs.Entries.{drawn-palette, index-lt}
+use Rattle.lanes.specs.Lanes.{spreadOf}
+use Rattle.runs.specs.Runs.{Tables, baseOf, within, screenFrom, runPixel, pixelIn}
+use Rattle.picture.specs.Picture.{Parts, onScreen, below, pixelAt, rowOf, pictureOf}
+use Rattle.picture.specs.Tables.{borderColor, gameColor, pixelOn}
+
+both : (a b : Bool) → a && b ≡ true → (a ≡ true) × (b ≡ true)
+both true b e = (refl, e)
+both false b e = absurd (false≢true e)
+
+-- the border's table
+module _ (l b : List ℕ) (back : ℕ) (e : l ≡ tab 48 (borderColor b back)) where
+  at : (k : ℕ) → k < 48 → getD l k 0 ≡ borderColor b back k
+  at k h = ap (λ (m : List ℕ). getD m k 0) e ∙ getD-tab 48 (borderColor b back) k h
+
+  first : getD l 0 0 ≡ back
+  unfolding borderColor
+  first = at 0 (omega arith)
+
+  -- an opaque pixel's colour
+  opaque-at : (w i : ℕ) → draws w ≡ true → i < 16 → (i ≡ 0 → ⊥) → getD l (baseOf w + i) 0 ≡ inPalette b w i
+  unfolding baseOf borderColor inPalette
+  opaque-at w i d h ne =
+      let q = drawn-palette w d in
+      let k : ℕ = (paletteOf w - 4) * 16 + i in
+      let lt : k < 48 = omega (arith, q .1) in
+      let off : k % 16 ≡ 0 → ⊥ = λ z. ne (omega (arith, z)) in
+      ap (λ (t : Bool). getD l (cond t ((paletteOf w - 4) * 16) 0 + i) 0) d
+      ∙ at k lt
+      ∙ ap (λ (t : Bool). cond t back (wordAt b (k * 2))) (ne-eqb (k % 16) 0 off)
+
+  -- a run's pixel is the border's colour where it is opaque
+  shows : (w i v : ℕ) (d : Bool) → draws w ≡ d → i < 16 → runPixel (cond d i 0) l (baseOf w) v ≡ Option·getD (opaque b w (cond d i 0)) v
+  unfolding opaque
+  shows w i v false f h = refl
+  shows w zero v true f h = refl
+  shows w (suc i) v true f h =
+      let ne : suc i ≡ 0 → ⊥ = λ z. omega arith in
+      let t : eqb (suc i) 0 ≡ false = ne-eqb (suc i) 0 ne in
+      (λ j. cond (t j) v (getD l (baseOf w + suc i) 0))
+      ∙ opaque-at w (suc i) f h ne
+      ∙ (λ j. Option·getD (cond (sym t j) none (some (inPalette b w (suc i)))) v)
+
+-- the tables as the runs ask for them
+pub tables-are : (s l g b : List ℕ) (back : ℕ) (f : ℕ → ℕ) → s ≡ tab 512 spreadOf → l ≡ tab 48 (borderColor b back) → g ≡ tab 16 f → Tables s l g
+unfolding borderColor
+tables-are s l g b back f es el eg =
+    record {
+      spread = es;
+      border-long = ap length el ∙ length-tab 48 (borderColor b back);
+      game-long = ap length eg ∙ length-tab 16 f;
+      second = at l b back el 16 (omega arith) ∙ sym (first l b back el);
+      third = at l b back el 32 (omega arith) ∙ sym (first l b back el);
+    }
+
+-- the screen's cells are where the screen is
+same-test : (a b : Bool) → (a ≡ true → b ≡ true) → (b ≡ true → a ≡ true) → a ≡ b
+same-test true b f g = sym (f refl)
+same-test false true f g = g refl
+same-test false false f g = refl
+
+cells : (x y : ℕ) → within (x / 8) y ≡ onScreen x y
+unfolding within
+cells x y =
+    let a : leb 6 (x / 8) ≡ leb 48 x = same-test _ _
+    (λ t. let h = leb-true 6 (x / 8) t in le-leb 48 x (omega arith)) (λ t. let h = leb-true 48 x t in le-leb 6 (x / 8) (omega arith)) in
+    let b : ltb (x / 8) 26 ≡ ltb x 208 = same-test _ _
+    (λ t. let h = ltb-true (x / 8) 26 t in lt-ltb x 208 (omega arith)) (λ t. let h = ltb-true x 208 t in lt-ltb (x / 8) 26 (omega arith)) in
+    λ i. (a i && b i) && (leb 40 y && ltb y 184)
+
+module _ (p : Parts) (border game : List ℕ)
+    (eb : border ≡ tab 48 (borderColor (p .borders) (backdropOf (p .palettes) (p .preset) (p .inForce))))
+    (eg : game ≡ tab 16 (gameColor (p .palettes) (p .preset) (p .inForce) (p .mode))) where
+  looked : (n h : ℕ) → n < 4 → h < 4 → getD game (n * 4 + h) 0 ≡ maskedOf (p .palettes) (p .preset) (p .inForce) (p .mode) n h
+  unfolding gameColor
+  looked n h ln lh =
+      let lt : n * 4 + h < 16 = omega arith in
+      let a : (n * 4 + h) / 4 ≡ n = omega arith in
+      let b : (n * 4 + h) % 4 ≡ h = omega arith in
+      ap (λ (m : List ℕ). getD m (n * 4 + h) 0) eg
+      ∙ getD-tab 16 (gameColor (p .palettes) (p .preset) (p .inForce) (p .mode)) (n * 4 + h) lt
+      ∙ ap₂ (maskedOf (p .palettes) (p .preset) (p .inForce) (p .mode)) a b
+
+  small : (b : List ℕ) (k : ℕ) → pairAt b k < 4
+  unfolding pairAt
+  small b k = pair-lt _ _
+
+  seen : ℕ → ℕ → ℕ
+  seen x y = getD game (cellAt (p .attributes) (x / 8 - 6) ((y - 40) / 8) * 4 + pairAt (p .screen) (screenFrom (x / 8) y + x % 8)) 0
+
+  screen-is : (x y : ℕ) → onScreen x y ≡ true
+      → seen x y ≡ screenPixel (p .palettes) (p .preset) (p .inForce) (p .attributes) (p .screen) (p .mode) (x - 48) (y - 40)
+  unfolding screenPixel seen
+  screen-is x y t =
+      let q = both (leb 48 x && ltb x 208) (leb 40 y && ltb y 184) t in
+      let hx : 48 ≤ x = leb-true 48 x (both (leb 48 x) (ltb x 208) (q .0) .0) in
+      let ec : x / 8 - 6 ≡ (x - 48) / 8 = omega arith in
+      let es : screenFrom (x / 8) y + x % 8 ≡ (y - 40) * 160 + (x - 48) = omega arith in
+      looked (cellAt (p .attributes) (x / 8 - 6) ((y - 40) / 8)) (pairAt (p .screen) (screenFrom (x / 8) y + x % 8)) (small _ _) (small _ _)
+      ∙ (λ i. maskedOf (p .palettes) (p .preset) (p .inForce) (p .mode) (cellAt (p .attributes) (ec i) ((y - 40) / 8)) (pairAt (p .screen) (es i)))
+
+  below-is : (x y : ℕ) → cond (within (x / 8) y) (seen x y) (getD border 0 0) ≡ below p x y
+  unfolding below
+  below-is x y =
+      (λ i. cond (cells x y i) (seen x y) (first border (p .borders) (backdropOf (p .palettes) (p .preset) (p .inForce)) eb i)) ∙ go (onScreen x y) refl
+    where
+      go : (t : Bool) → onScreen x y ≡ t
+          → cond t (seen x y) (backdropOf (p .palettes) (p .preset) (p .inForce))
+          ≡ cond t (screenPixel (p .palettes) (p .preset) (p .inForce) (p .attributes) (p .screen) (p .mode) (x - 48) (y - 40)) (backdropOf (p .palettes) (p .preset) (p .inForce))
+      go true e = screen-is x y e
+      go false e = refl
+
+  pixel-is : (x y : ℕ) → pixelOn (p .tiles) (p .map) (p .attributes) (p .screen) border game y x ≡ pixelAt p x y
+  unfolding pixelOn pixelIn pixelAt borderAt indexOf seen
+  pixel-is x y =
+      let w : ℕ = entryAt (p .map) (x / 8) (y / 8) in
+      let i : ℕ = indexIn (tilePart (p .tiles) (tileOf w)) (flipped (flipY w) (y % 8)) (flipped (flipX w) (x % 8)) in
+      ap (λ (v : ℕ). runPixel (cond (draws w) i 0) border (baseOf w) v) (below-is x y)
+      ∙ shows border (p .borders) (backdropOf (p .palettes) (p .preset) (p .inForce)) eb w i (below p x y) (draws w) refl (index-lt _ _ _)
+
+  pub row-is : (y : ℕ) (o l : List ℕ) → Painted o l 0 256 (pixelOn (p .tiles) (p .map) (p .attributes) (p .screen) border game y) → 256 ≤ length l
+      → o ≡ rowOf p y ++ drop 256 l
+  unfolding rowOf
+  row-is y o l q h = painted-tab (painted-same q (λ x. pixelAt p x y) (λ x lt. pixel-is x y)) h
+
+  pub picture-is : (o l : List ℕ) → Painted o l 0 57344 (λ k. pixelOn (p .tiles) (p .map) (p .attributes) (p .screen) border game (k / 256) (k % 256)) → 57344 ≤ length l
+      → o ≡ pictureOf p ++ drop 57344 l
+  unfolding pictureOf
+  picture-is o l q h = painted-tab (painted-same q (λ k. pixelAt p (k % 256) (k / 256)) (λ k lt. pixel-is (k % 256) (k / 256))) h
+
+-- the next run of a row, the next row of the picture
+module _ (tiles map attributes screen border game : List ℕ) (y : ℕ) (l m o : List ℕ) where
+  pub row-turn : (c at start : ℕ) → start ≡ at + c * 8
+      → Painted m l at (c * 8) (pixelOn tiles map attributes screen border game y) → Painted o m start 8 (pixelIn tiles map attributes screen border game c y)
+      → Painted o l at ((c + 1) * 8) (pixelOn tiles map attributes screen border game y)
+  unfolding pixelOn
+  row-turn c at start e p q =
+      painted-count
+      (painted-run p q e
+      (λ i h. let a : c ≡ (c * 8 + i) / 8 = omega arith in let b : i ≡ (c * 8 + i) % 8 = omega arith in λ t. pixelIn tiles map attributes screen border game (a t) y (b t)))
+      ((c + 1) * 8)
+      (omega arith)
+
+  pub rows-turn : Painted m l 0 (y * 256) (λ k. pixelOn tiles map attributes screen border game (k / 256) (k % 256))
+      → Painted o m (y * 256) 256 (pixelOn tiles map attributes screen border game y)
+      → Painted o l 0 ((y + 1) * 256) (λ k. pixelOn tiles map attributes screen border game (k / 256) (k % 256))
+  rows-turn p q =
+      painted-count
+      (painted-run p q (omega arith)
+      (λ i h. let a : y ≡ (y * 256 + i) / 256 = omega arith in let b : i ≡ (y * 256 + i) % 256 = omega arith in ap₂ (pixelOn tiles map attributes screen border game) a b))
+      ((y + 1) * 256)
+      (omega arith)

@@ -1,0 +1,43 @@
+-- The test is the definition's; else the word of the two bytes at that place.
+use mathlib.Core.Path.{_∙_}
+use borrow.Author.Tests.{eq-eqb, ne-eqb}
+use borrow.Author.Needs.{needs}
+use Rattle.bits.specs.Word.{wordAt}
+use Rattle.picture.specs.Tables.{borderColor}
+use Rattle.picture.proofs.border_color.Statement.{statement}
+use Rattle.picture.proofs.border_color.Tie as tie
+
+returns : tie.Need-returns
+unfolding borderColor
+returns c = rw (eq-eqb _ _ (c .if1 .taken))
+
+mul-at : tie.Need-mul-at
+mul-at c = search needs
+
+shared-slice-read-word : tie.Need-shared-slice-read-word
+shared-slice-read-word c = search needs
+
+add-word : tie.Need-add-word
+add-word c = search needs
+
+shared-slice-read-word-2 : tie.Need-shared-slice-read-word-2
+shared-slice-read-word-2 c = search needs
+
+word-requires : tie.Need-word-requires
+word-requires c κs = search needs
+
+returns-2 : tie.Need-returns-2
+unfolding borderColor wordAt
+returns-2 c = c .word .ensures ∙ rw (ne-eqb _ _ (c .before .before .before .if1 .left))
+
+pub border-color-spec : {M : Type 1} → statement M
+border-color-spec =
+    tie.close
+    (tie.spec
+    returns
+    mul-at
+    shared-slice-read-word
+    add-word
+    shared-slice-read-word-2
+    word-requires
+    returns-2)

@@ -1,0 +1,193 @@
+// The SNES picture: the backdrop, the displayed screen at (48, 40), and the border over both (document 01, Screens, border and picture).
+// Rust: `snes_picture`. A row goes by runs of eight pixels (`runs`) from tables that are made once: with a full border a sixth of the Rust's time.
+ghost use mathlib.Core.Path.{_≡_};
+ghost use Prim.Native.Nat.{_<_, _≤_, _+_, _/_, _%_};
+ghost use mathlib.Core.List.{_++_};
+ghost use lib.ListN.{length, drop};
+ghost use Rattle.bits.specs.Tab.{tab};
+ghost use Rattle.bits.specs.Paint.{Painted};
+ghost use Rattle.runs.specs.Runs.{Lent, Tables};
+ghost use Rattle.picture.specs.Picture.{parts, rowOf, pictureOf};
+ghost use Rattle.picture.specs.Tables.{borderColor, gameColor, pixelOn};
+
+// Row y of the picture. An output that is longer keeps its tail.
+pub fn row(
+    palettes: &[u8],
+    preset: &[u8],
+    in_force: bool,
+    attributes: &[u8],
+    screen: &[u8],
+    mode: u8,
+    tiles: &[u8],
+    map: &[u8],
+    borders: &[u8],
+    y: usize,
+    out: &mut [u16],
+)
+    requires { ⌜ Lent (now tiles) (now map) (now attributes) (now screen) ⌝ }
+    requires { ⌜ (length (now palettes) ≡ 32) × (length (now preset) ≡ 8) × (length (now borders) ≡ 96) ⌝ }
+    requires { ⌜ (y < 224) × (256 ≤ length (now out)) ⌝ }
+    ensures { λ _. ⌜ now (out .exit) ≡ rowOf (parts (now (palettes .entry)) (now (preset .entry)) «in_force» (now (attributes .entry)) (now (screen .entry)) mode (now (tiles .entry)) (now (map .entry)) (now (borders .entry))) y ++ drop 256 (now (out .entry)) ⌝ }
+{
+    let mut spreads = [0u32; 512];
+    lanes::fill_spreads(&mut spreads);
+    let back = screen::backdrop(palettes, preset, in_force).0;
+    let mut border = [0u16; 48];
+    border_colors(&mut border, borders, back);
+    let mut game = [0u16; 16];
+    game_colors(&mut game, palettes, preset, in_force, mode);
+    row_with(
+        out,
+        0,
+        tiles,
+        map,
+        attributes,
+        screen,
+        &spreads,
+        &border,
+        &game,
+        y,
+    );
+}
+
+// The whole picture.
+pub fn picture(
+    palettes: &[u8],
+    preset: &[u8],
+    in_force: bool,
+    attributes: &[u8],
+    screen: &[u8],
+    mode: u8,
+    tiles: &[u8],
+    map: &[u8],
+    borders: &[u8],
+    out: &mut [u16],
+)
+    requires { ⌜ Lent (now tiles) (now map) (now attributes) (now screen) ⌝ }
+    requires { ⌜ (length (now palettes) ≡ 32) × (length (now preset) ≡ 8) × (length (now borders) ≡ 96) ⌝ }
+    requires { ⌜ 57344 ≤ length (now out) ⌝ }
+    ensures { λ _. ⌜ now (out .exit) ≡ pictureOf (parts (now (palettes .entry)) (now (preset .entry)) «in_force» (now (attributes .entry)) (now (screen .entry)) mode (now (tiles .entry)) (now (map .entry)) (now (borders .entry))) ++ drop 57344 (now (out .entry)) ⌝ }
+{
+    let mut spreads = [0u32; 512];
+    lanes::fill_spreads(&mut spreads);
+    let back = screen::backdrop(palettes, preset, in_force).0;
+    let mut border = [0u16; 48];
+    border_colors(&mut border, borders, back);
+    let mut game = [0u16; 16];
+    game_colors(&mut game, palettes, preset, in_force, mode);
+    rows_with(
+        out,
+        tiles,
+        map,
+        attributes,
+        screen,
+        &spreads,
+        &border,
+        &game,
+    );
+}
+
+// All rows, from the tables.
+fn rows_with(
+    out: &mut [u16],
+    tiles: &[u8],
+    map: &[u8],
+    attributes: &[u8],
+    screen: &[u8],
+    spreads: &[u32],
+    border: &[u16],
+    game: &[u16],
+)
+    requires { ⌜ Lent (now tiles) (now map) (now attributes) (now screen) ⌝ }
+    requires { ⌜ Tables (now spreads) (now border) (now game) ⌝ }
+    requires { ⌜ 57344 ≤ length (now out) ⌝ }
+    ensures { λ _. ⌜ Painted (now (out .exit)) (now (out .entry)) 0 57344 (λ k. pixelOn (now (tiles .entry)) (now (map .entry)) (now (attributes .entry)) (now (screen .entry)) (now (border .entry)) (now (game .entry)) (k / 256) (k % 256)) ⌝ }
+{
+    let mut y = 0;
+    while y < 224 {
+        row_with(
+            out,
+            y * 256,
+            tiles,
+            map,
+            attributes,
+            screen,
+            spreads,
+            border,
+            game,
+            y,
+        );
+        y += 1;
+    }
+}
+
+// Row y, run by run, written from `at` on.
+fn row_with(
+    out: &mut [u16],
+    at: usize,
+    tiles: &[u8],
+    map: &[u8],
+    attributes: &[u8],
+    screen: &[u8],
+    spreads: &[u32],
+    border: &[u16],
+    game: &[u16],
+    y: usize,
+)
+    requires { ⌜ Lent (now tiles) (now map) (now attributes) (now screen) ⌝ }
+    requires { ⌜ Tables (now spreads) (now border) (now game) ⌝ }
+    requires { ⌜ (at + 256 ≤ length (now out)) × (y < 224) ⌝ }
+    ensures { λ _. ⌜ Painted (now (out .exit)) (now (out .entry)) at 256 (pixelOn (now (tiles .entry)) (now (map .entry)) (now (attributes .entry)) (now (screen .entry)) (now (border .entry)) (now (game .entry)) y) ⌝ }
+{
+    let mut c = 0;
+    while c < 32 {
+        runs::run(
+            out,
+            at + c * 8,
+            tiles,
+            map,
+            attributes,
+            screen,
+            spreads,
+            border,
+            game,
+            c,
+            y,
+        );
+        c += 1;
+    }
+}
+
+// The tables.
+fn border_colors(out: &mut [u16], borders: &[u8], back: u16)
+    requires { ⌜ (length (now out) ≡ 48) × (length (now borders) ≡ 96) ⌝ }
+    ensures { λ _. ⌜ now (out .exit) ≡ tab 48 (borderColor (now (borders .entry)) back) ⌝ }
+{
+    let mut n = 0;
+    while n < 48 {
+        out[n] = border_color(borders, back, n);
+        n += 1;
+    }
+}
+
+fn border_color(borders: &[u8], back: u16, n: usize) -> u16
+    requires { ⌜ (length (now borders) ≡ 96) × (n < 48) ⌝ }
+    ensures { λ r. ⌜ r ≡ borderColor (now (borders .entry)) back n ⌝ }
+{
+    if n % 16 == 0 {
+        return back;
+    }
+    let at = n * 2;
+    bits::word(borders[at], borders[at + 1])
+}
+
+fn game_colors(out: &mut [u16], palettes: &[u8], preset: &[u8], in_force: bool, mode: u8)
+    requires { ⌜ (length (now out) ≡ 16) × (length (now palettes) ≡ 32) × (length (now preset) ≡ 8) ⌝ }
+    ensures { λ _. ⌜ now (out .exit) ≡ tab 16 (gameColor (now (palettes .entry)) (now (preset .entry)) «in_force» mode) ⌝ }
+{
+    let mut k = 0;
+    while k < 16 {
+        out[k] = screen::masked(palettes, preset, in_force, mode, k / 4, k % 4).0;
+        k += 1;
+    }
+}

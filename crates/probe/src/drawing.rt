@@ -1,0 +1,193 @@
+// Screens, border and picture. The row and the picture are asked for with the parts of one lent block, as the unit has them.
+use transfer::pending::Landed;
+use transfer::pending::Pending;
+ghost use mathlib.Core.Path.{_≡_};
+ghost use Prim.Native.Nat.{_<_, _≤_};
+ghost use lib.ListN.{length};
+ghost use Rattle.transfer.specs.Page.{planeByte, pageOf};
+ghost use Rattle.transfer.specs.Landing.{palettesLanded, filesLanded, tilesLanded, mapLanded};
+
+#[no_mangle]
+pub extern "C" fn probe_plane_byte(screen: &[u8], t: usize, r: usize, p: usize) -> u8
+    requires { ⌜ length (now screen) ≡ 5760 ⌝ }
+    requires { ⌜ (t < 256) × (r < 8) × (p < 2) ⌝ }
+    ensures { λ b. ⌜ b ≡ planeByte (now (screen .entry)) t r p ⌝ }
+{
+    transfer::page::plane_byte(screen, t, r, p)
+}
+
+#[no_mangle]
+pub extern "C" fn probe_page(out: &mut [u8], screen: &[u8])
+    requires { ⌜ (length (now out) ≡ 4096) × (length (now screen) ≡ 5760) ⌝ }
+    ensures { λ _. ⌜ now (out .exit) ≡ pageOf (now (screen .entry)) ⌝ }
+{
+    transfer::page::page(out, screen);
+}
+
+#[no_mangle]
+pub extern "C" fn probe_land_palettes(part: &mut [u8], screen: &[u8])
+    requires { ⌜ (length (now part) ≡ 4096) × (length (now screen) ≡ 5760) ⌝ }
+    ensures { λ _. ⌜ now (part .exit) ≡ palettesLanded (now (screen .entry)) ⌝ }
+{
+    transfer::landing::land_palettes(part, screen);
+}
+
+#[no_mangle]
+pub extern "C" fn probe_land_files(part: &mut [u8], screen: &[u8])
+    requires { ⌜ (length (now part) ≡ 4050) × (length (now screen) ≡ 5760) ⌝ }
+    ensures { λ _. ⌜ now (part .exit) ≡ filesLanded (now (screen .entry)) ⌝ }
+{
+    transfer::landing::land_files(part, screen);
+}
+
+#[no_mangle]
+pub extern "C" fn probe_land_tiles(part: &mut [u8], screen: &[u8])
+    requires { ⌜ (length (now part) ≡ 4096) × (length (now screen) ≡ 5760) ⌝ }
+    ensures { λ _. ⌜ now (part .exit) ≡ tilesLanded (now (screen .entry)) ⌝ }
+{
+    transfer::landing::land_tiles(part, screen);
+}
+
+#[no_mangle]
+pub extern "C" fn probe_land_map(part: &mut [u8], screen: &[u8])
+    requires { ⌜ (length (now part) ≡ 1888) × (length (now screen) ≡ 5760) ⌝ }
+    ensures { λ _. ⌜ now (part .exit) ≡ mapLanded (now (screen .entry)) ⌝ }
+{
+    transfer::landing::land_map(part, screen);
+}
+
+// The countdown that a screen leaves, and the kind, which lands if the third number is 1: countdown * 65536 + kind * 256 + landed.
+#[no_mangle]
+pub extern "C" fn probe_screened(countdown: u8, kind: u8) -> u32 {
+    let p = Pending::load(countdown, kind);
+    let landed = landed_kind(p.landing());
+    let left = p.screened();
+    (left.countdown() as u32) << 16 | (left.kind() as u32) << 8 | landed as u32
+}
+
+// A kind that landed, or 255.
+fn landed_kind(landed: Landed) -> u8 {
+    match landed {
+        Landed::Nothing => 255,
+        Landed::Page(transfer) => transfer.number(),
+    }
+}
+
+// The length of the part, which goes into out.
+#[no_mangle]
+pub extern "C" fn probe_displayed<'a>(
+    live: &'a [u8],
+    frozen: &'a [u8],
+    mode: u8,
+    out: &mut [u8],
+) -> usize {
+    let part = screen::displayed_screen(live, frozen, mode);
+    let n = part.len();
+    if n <= out.len() {
+        bits::put(out, 0, part);
+    }
+    n
+}
+
+#[no_mangle]
+pub extern "C" fn probe_tile_part(tiles: &[u8], n: usize, out: &mut [u8]) -> usize {
+    let part = border::tile(tiles, n);
+    let long = part.len();
+    if long <= out.len() {
+        bits::put(out, 0, part);
+    }
+    long
+}
+
+#[no_mangle]
+pub extern "C" fn probe_map_entry(map: &[u8], column: usize, row: usize) -> u16
+    requires { ⌜ (length (now map) ≡ 1792) × (column < 32) × (row < 28) ⌝ }
+{
+    let entry = border::map_entry(map, column, row);
+    entry.0
+}
+
+// The border's colour at a pixel, or 65536 where it is transparent.
+#[no_mangle]
+pub extern "C" fn probe_border_color(
+    tiles: &[u8],
+    map: &[u8],
+    palettes: &[u8],
+    x: usize,
+    y: usize,
+) -> u32
+    requires { ⌜ (length (now tiles) ≡ 8192) × (length (now map) ≡ 1792) × (length (now palettes) ≡ 96) ⌝ }
+    requires { ⌜ (x < 256) × (y < 224) ⌝ }
+{
+    color_number(border::color_at(tiles, map, palettes, x, y))
+}
+
+fn color_number(c: border::BorderColor) -> u32 {
+    match c {
+        border::BorderColor::Transparent => 65536,
+        border::BorderColor::Opaque(color) => color.0 as u32,
+    }
+}
+
+#[no_mangle]
+pub extern "C" fn probe_color_at(block: &[u8], x: usize, y: usize, shade: usize) -> u16
+    requires { ⌜ length (now block) ≡ 30020 ⌝ }
+    requires { ⌜ (x < 160) × (y < 144) × (shade < 4) ⌝ }
+{
+    let in_force = block[9] == 1;
+    let c = screen::color_at(
+        &block[152..184],
+        &block[144..152],
+        in_force,
+        &block[184..274],
+        x,
+        y,
+        shade,
+    );
+    c.0
+}
+
+#[no_mangle]
+pub extern "C" fn probe_row(block: &[u8], y: usize, out: &mut [u16])
+    requires { ⌜ length (now block) ≡ 30020 ⌝ }
+    requires { ⌜ (y < 224) × (256 ≤ length (now out)) ⌝ }
+{
+    let mode = block[0];
+    let in_force = block[9] == 1;
+    let shown = screen::displayed_screen(&block[8420..14180], &block[14180..19940], mode);
+    picture::row(
+        &block[152..184],
+        &block[144..152],
+        in_force,
+        &block[184..274],
+        shown,
+        mode,
+        &block[19940..28132],
+        &block[28132..29924],
+        &block[29924..30020],
+        y,
+        out,
+    );
+}
+
+#[no_mangle]
+pub extern "C" fn probe_picture(block: &[u8], out: &mut [u16])
+    requires { ⌜ length (now block) ≡ 30020 ⌝ }
+    requires { ⌜ 57344 ≤ length (now out) ⌝ }
+{
+    let mode = block[0];
+    let in_force = block[9] == 1;
+    let shown = screen::displayed_screen(&block[8420..14180], &block[14180..19940], mode);
+    picture::picture(
+        &block[152..184],
+        &block[144..152],
+        in_force,
+        &block[184..274],
+        shown,
+        mode,
+        &block[19940..28132],
+        &block[28132..29924],
+        &block[29924..30020],
+        out,
+    );
+}
