@@ -1,6 +1,6 @@
 -- By the word that the bit index points into: past it nothing is left after a shift.
-use Rattle.valid.proofs.Bytes.{clear-whole, clear-high, clear-not, clear-low}
 use borrow.Author.Needs.{needs}
+use Rattle.valid.proofs.Bytes.{clear-whole, clear-high, clear-not, clear-low}
 use Rattle.valid.proofs.clear_from.Statement.{statement}
 use Rattle.valid.proofs.clear_from.Tie as tie
 

@@ -1,6 +1,6 @@
 -- Each arm is the definition's.
-use Rattle.layout.specs.Valid.{maskAllows}
 use borrow.Author.Tests.{eq-eqb, ne-eqb}
+use Rattle.layout.specs.Valid.{maskAllows}
 use Rattle.valid.proofs.mask_allows.Statement.{statement}
 use Rattle.valid.proofs.mask_allows.Tie as tie
 

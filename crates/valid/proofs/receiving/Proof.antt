@@ -1,12 +1,12 @@
 -- Each test of the sentence in turn; the packet's two words are the number of its bytes.
-use Rattle.packet.proofs.Halves.{value-words}
-use Rattle.receiver.specs.Valid.{v3At}
-use Rattle.layout.specs.Block.{load}
-use denote.Ref.{now}
-use native.Mathlib.Omega.{arith}
-use mathlib.Core.Path.{sym, _∙_}
-use borrow.Author.Tests.{eq-eqb, ne-eqb, le-leb, lt-leb, not-true, not-false}
 use borrow.Author.Needs.{needs}
+use borrow.Author.Tests.{eq-eqb, ne-eqb, le-leb, lt-leb, not-true, not-false}
+use mathlib.Core.Path.{sym, _∙_}
+use native.Mathlib.Omega.{arith}
+use denote.Ref.{now}
+use Rattle.layout.specs.Block.{load}
+use Rattle.receiver.specs.Valid.{v3At}
+use Rattle.packet.proofs.Halves.{value-words}
 use Rattle.valid.proofs.receiving.Statement.{statement}
 use Rattle.valid.proofs.receiving.Tie as tie
 

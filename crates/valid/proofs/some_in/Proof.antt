@@ -1,18 +1,18 @@
 -- Each test of the sentence in turn; the store's parts are parts of the block.
-use Rattle.bits.specs.Zero.{zeros}
-use denote.Ref.{now}
+use borrow.Author.Needs.{needs}
+use borrow.Author.Tests.{eq-eqb, ne-eqb, le-leb, lt-leb, lt-ltb, le-ltb}
+use mathlib.Core.Path.{sym, _∙_, ap}
 use Prim.Native.Nat.{_*_}
-use lib.ListN.{getD}
+use native.Mathlib.Omega.{arith}
+use denote.Ref.{now}
 use lib.Dec.{lit<}
-use Rattle.valid.proofs.Bytes.{drop-part}
+use lib.ListN.{getD}
 use Rattle.bits.proofs.Overs.{getD-part}
+use Rattle.bits.specs.Zero.{zeros}
+use Rattle.layout.specs.Block.{load}
 use Rattle.receiver.specs.Count.{countOf}
 use Rattle.receiver.specs.Valid.{later}
-use Rattle.layout.specs.Block.{load}
-use native.Mathlib.Omega.{arith}
-use mathlib.Core.Path.{sym, _∙_, ap}
-use borrow.Author.Tests.{eq-eqb, ne-eqb, le-leb, lt-leb, lt-ltb, le-ltb}
-use borrow.Author.Needs.{needs}
+use Rattle.valid.proofs.Bytes.{drop-part}
 use Rattle.valid.proofs.some_in.Statement.{statement}
 use Rattle.valid.proofs.some_in.Tie as tie
 

@@ -1,7 +1,7 @@
 -- Each test of V1 as the code makes it, in the definition's order.
-use Rattle.layout.specs.Valid.{v1}
-use borrow.Author.Tests.{le-leb, lt-leb}
 use borrow.Author.Needs.{needs}
+use borrow.Author.Tests.{le-leb, lt-leb}
+use Rattle.layout.specs.Valid.{v1}
 use Rattle.valid.proofs.v1.Statement.{statement}
 use Rattle.valid.proofs.v1.Tie as tie
 

@@ -1,8 +1,8 @@
 -- Each test of V2 as the code makes it, in the definition's order.
-use Rattle.layout.specs.Valid.{v2}
-use mathlib.Core.Path.{sym, _∙_}
-use borrow.Author.Tests.{le-leb, lt-leb, not-true, not-false}
 use borrow.Author.Needs.{needs}
+use borrow.Author.Tests.{le-leb, lt-leb, not-true, not-false}
+use mathlib.Core.Path.{sym, _∙_}
+use Rattle.layout.specs.Valid.{v2}
 use Rattle.valid.proofs.v2.Statement.{statement}
 use Rattle.valid.proofs.v2.Tie as tie
 

@@ -1,13 +1,13 @@
 -- The stage's number picks the sentence; a lent block is bytes.
-use Rattle.valid.proofs.Bytes.{part-bytes}
-use Rattle.receiver.specs.Valid as receiver
-use Rattle.layout.specs.Valid.{v3}
-use Rattle.layout.specs.Block.{load, stageOf}
-use denote.Ref.{now}
-use native.Mathlib.Omega.{arith}
-use borrow.Author.Tests.{lt-leb}
-use lib.ListN.{getD}
 use borrow.Author.Needs.{needs}
+use borrow.Author.Tests.{lt-leb}
+use native.Mathlib.Omega.{arith}
+use denote.Ref.{now}
+use lib.ListN.{getD}
+use Rattle.layout.specs.Block.{load, stageOf}
+use Rattle.layout.specs.Valid.{v3}
+use Rattle.receiver.specs.Valid as receiver
+use Rattle.valid.proofs.Bytes.{part-bytes}
 use Rattle.valid.proofs.v3.Statement.{statement}
 use Rattle.valid.proofs.v3.Tie as tie
 

@@ -1,13 +1,12 @@
 -- A countdown of 0 leaves the first half of the rule, any other the second.
-use mathlib.Core.Path.{sym}
-use lib.ListN.{getD}
-use denote.Ref.{now}
-use Rattle.valid.proofs.Bytes.{or-false}
-use Rattle.layout.specs.Valid.{v4}
-use native.Mathlib.Omega.{arith}
-use mathlib.Core.Path.{sym}
-use borrow.Author.Tests.{eq-eqb, ne-eqb, le-leb, lt-leb}
 use borrow.Author.Needs.{needs}
+use borrow.Author.Tests.{eq-eqb, ne-eqb, le-leb, lt-leb}
+use mathlib.Core.Path.{sym}
+use native.Mathlib.Omega.{arith}
+use denote.Ref.{now}
+use lib.ListN.{getD}
+use Rattle.layout.specs.Valid.{v4}
+use Rattle.valid.proofs.Bytes.{or-false}
 use Rattle.valid.proofs.v4.Statement.{statement}
 use Rattle.valid.proofs.v4.Tie as tie
 

@@ -1,7 +1,7 @@
 -- The preset's bytes are looked at exactly if byte 9 is 0.
-use Rattle.layout.specs.Valid.{v5}
-use borrow.Author.Tests.{eq-eqb, ne-eqb}
 use borrow.Author.Needs.{needs}
+use borrow.Author.Tests.{eq-eqb, ne-eqb}
+use Rattle.layout.specs.Valid.{v5}
 use Rattle.valid.proofs.v5.Statement.{statement}
 use Rattle.valid.proofs.v5.Tie as tie
 

@@ -1,8 +1,8 @@
 -- Whether the mask allows it, and the frozen capture's bytes exactly if byte 12 is 0.
-use Rattle.layout.specs.Valid.{v6}
-use mathlib.Core.Path.{sym, _∙_}
-use borrow.Author.Tests.{eq-eqb, ne-eqb, not-true, not-false}
 use borrow.Author.Needs.{needs}
+use borrow.Author.Tests.{eq-eqb, ne-eqb, not-true, not-false}
+use mathlib.Core.Path.{sym, _∙_}
+use Rattle.layout.specs.Valid.{v6}
 use Rattle.valid.proofs.v6.Statement.{statement}
 use Rattle.valid.proofs.v6.Tie as tie
 

@@ -1,8 +1,8 @@
 -- The length, and then each clause in turn.
-use Rattle.layout.specs.Valid.{validParts, valid}
-use mathlib.Core.Path.{sym, _∙_}
-use borrow.Author.Tests.{eq-eqb, ne-eqb, not-true, not-false}
 use borrow.Author.Needs.{needs}
+use borrow.Author.Tests.{eq-eqb, ne-eqb, not-true, not-false}
+use mathlib.Core.Path.{sym, _∙_}
+use Rattle.layout.specs.Valid.{validParts, valid}
 use Rattle.valid.proofs.valid.Statement.{statement}
 use Rattle.valid.proofs.valid.Tie as tie
 
