@@ -89,13 +89,10 @@ byte-of : (w k v : ℕ) → w / 2 ^ k ≡ v → bitAnd (w / 2 ^ k) 255 ≡ v % 2
 byte-of w k v e = and-mask (w / 2 ^ k) 8 ∙ ap (λ (x : ℕ). x % 256) e
 
 -- eight stores in a row
-pub put-eight : (b : List ℕ) (at w : ℕ) → at + 8 ≤ length b
-    → set (set (set (set (set (set (set (set b at (bitAnd w 255)) (at + 1) (bitAnd (w / 2 ^ 8) 255)) (at + 2) (bitAnd (w / 2 ^ 16) 255))
-    (at + 3) (bitAnd (w / 2 ^ 24) 255)) (at + 4) (bitAnd (w / 2 ^ 32) 255)) (at + 5) (bitAnd (w / 2 ^ 40) 255))
-    (at + 6) (bitAnd (w / 2 ^ 48) 255)) (at + 7) (bitAnd (w / 2 ^ 56) 255)
-    ≡ over at 8 (bytesOf 8 w) b
-unfolding bytesOf
-put-eight b at w h =
+pub store-eight : (b : List ℕ) (at v0 v1 v2 v3 v4 v5 v6 v7 : ℕ) → at + 8 ≤ length b
+    → set (set (set (set (set (set (set (set b at v0) (at + 1) v1) (at + 2) v2) (at + 3) v3) (at + 4) v4) (at + 5) v5) (at + 6) v6) (at + 7) v7
+    ≡ over at 8 (v0 ∷ v1 ∷ v2 ∷ v3 ∷ v4 ∷ v5 ∷ v6 ∷ v7 ∷ []) b
+store-eight b at v0 v1 v2 v3 v4 v5 v6 v7 h =
     let i1 : at + 1 ≡ suc at = omega arith in
     let i2 : at + 2 ≡ suc (suc at) = omega arith in
     let i3 : at + 3 ≡ suc (suc (suc at)) = omega arith in
@@ -103,19 +100,31 @@ put-eight b at w h =
     let i5 : at + 5 ≡ suc (suc (suc (suc (suc at)))) = omega arith in
     let i6 : at + 6 ≡ suc (suc (suc (suc (suc (suc at))))) = omega arith in
     let i7 : at + 7 ≡ suc (suc (suc (suc (suc (suc (suc at)))))) = omega arith in
+    let vs : List ℕ = v0 ∷ v1 ∷ v2 ∷ v3 ∷ v4 ∷ v5 ∷ v6 ∷ v7 ∷ [] in
+    (λ t. set (set (set (set (set (set (set (set b at v0) (i1 t) v1) (i2 t) v2) (i3 t) v3) (i4 t) v4) (i5 t) v5) (i6 t) v6) (i7 t) v7)
+    ∙ sets-eq vs b at h
+    ∙ append-assoc (take at b) vs (drop (at + 8) b)
+    ∙ ap (λ (l : List ℕ). take at b ++ (vs ++ l)) (sym (drop-drop 8 at b))
+
+-- of a word's bytes
+pub put-eight : (b : List ℕ) (at w : ℕ) → at + 8 ≤ length b
+    → set (set (set (set (set (set (set (set b at (bitAnd w 255)) (at + 1) (bitAnd (w / 2 ^ 8) 255)) (at + 2) (bitAnd (w / 2 ^ 16) 255))
+    (at + 3) (bitAnd (w / 2 ^ 24) 255)) (at + 4) (bitAnd (w / 2 ^ 32) 255)) (at + 5) (bitAnd (w / 2 ^ 40) 255))
+    (at + 6) (bitAnd (w / 2 ^ 48) 255)) (at + 7) (bitAnd (w / 2 ^ 56) 255)
+    ≡ over at 8 (bytesOf 8 w) b
+unfolding bytesOf
+put-eight b at w h =
     let w2 : ℕ = w / 256 / 256 in
     let w3 : ℕ = w2 / 256 in
     let w4 : ℕ = w3 / 256 in
     let w5 : ℕ = w4 / 256 in
     let w6 : ℕ = w5 / 256 in
     let w7 : ℕ = w6 / 256 in
-    (λ t.
-    set (set (set (set (set (set (set (set b at (and-mask w 8 t)) (i1 t) (byte-of w 8 (w / 256) refl t)) (i2 t) (byte-of w 16 w2 (omega arith) t))
-    (i3 t) (byte-of w 24 w3 (omega arith) t)) (i4 t) (byte-of w 32 w4 (omega arith) t)) (i5 t) (byte-of w 40 w5 (omega arith) t))
-    (i6 t) (byte-of w 48 w6 (omega arith) t)) (i7 t) (byte-of w 56 w7 (omega arith) t))
-    ∙ sets-eq (bytesOf 8 w) b at h
-    ∙ append-assoc (take at b) (bytesOf 8 w) (drop (at + 8) b)
-    ∙ ap (λ (l : List ℕ). take at b ++ (bytesOf 8 w ++ l)) (sym (drop-drop 8 at b))
+    store-eight b at _ _ _ _ _ _ _ _ h
+    ∙ (λ t.
+    over at 8
+    (and-mask w 8 t ∷ byte-of w 8 (w / 256) refl t ∷ byte-of w 16 w2 (omega arith) t ∷ byte-of w 24 w3 (omega arith) t
+    ∷ byte-of w 32 w4 (omega arith) t ∷ byte-of w 40 w5 (omega arith) t ∷ byte-of w 48 w6 (omega arith) t ∷ byte-of w 56 w7 (omega arith) t ∷ []) b)
 
 -- the bytes of n low bytes' worth and of what stands above
 bytes-append : (n m low high : ℕ) → low < 256 ^ n → bytesOf (n + m) (high * 256 ^ n + low) ≡ bytesOf n low ++ bytesOf m high
