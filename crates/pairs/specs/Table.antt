@@ -1,13 +1,15 @@
--- Document 01, Pairs on each edge. A row has what the definitions give, and then what document 01 says of it.
+-- Document 01, Pairs on each edge: its twelve pairs. A row has what the definitions give, and then what document 01 says of it.
 use Prim.Native.Nat.{ℕ}
 use mathlib.Core.Bool.{Bool, cond}
-use mathlib.Core.List.{List, [], _∷_}
-use lib.ListN.{getD}
+use mathlib.Core.List.{List, [], _∷_, _++_}
+use lib.ListN.{getD, replicate}
 use Rattle.bits.specs.Pair.{pairOf, packed}
 use Rattle.bits.specs.Plane.{planeOf}
 use Rattle.colour.specs.Colour.{rgb8}
 use Rattle.colour.specs.Entry.{tileOf, paletteOf, flipX, flipY}
 use Rattle.receiver.specs.Count.{countOf}
+use Rattle.commands.specs.Maps.{attrBlk}
+use Rattle.commands.specs.Pads.{mltReq}
 
 -- a flag as a number
 abbrev flag : Bool → ℕ
@@ -17,10 +19,24 @@ flag b = cond b 1 0
 abbrev four : List ℕ → ℕ
 four shades = packed (λ j. getD shades j 0)
 
+-- an ATTR_BLK of one set, in one packet
+abbrev oneSet : List ℕ → List ℕ
+oneSet set = 0x21 ∷ 1 ∷ set ++ replicate 8 0
+
+-- the packed map whose cells are all 3
+abbrev allThree : List ℕ
+allThree = replicate 90 0xFF
+
 unfoldable pub table : List (List ℕ × List ℕ)
 table =
     -- counts 00 -> 0, EF -> 7, F0 -> 1, F7 -> 1
-    (countOf 0x00 ∷ countOf 0xEF ∷ countOf 0xF0 ∷ countOf 0xF7 ∷ [], 0 ∷ 7 ∷ 1 ∷ 1 ∷ [])
+    (countOf 0x00 ∷ [], 0 ∷ [])
+    ∷ (countOf 0xEF ∷ [], 7 ∷ [])
+    ∷ (countOf 0xF0 ∷ [], 1 ∷ [])
+    ∷ (countOf 0xF7 ∷ [], 1 ∷ [])
+    -- MLT_REQ 2 at index 1 -> 2, at 3 -> 0
+    ∷ (mltReq 2 1 .index ∷ [], 2 ∷ [])
+    ∷ (mltReq 2 3 .index ∷ [], 0 ∷ [])
     -- word 5003 is tile 3, palette 4, x flipped only
     ∷ (tileOf 0x5003 ∷ paletteOf 0x5003 ∷ flag (flipX 0x5003) ∷ flag (flipY 0x5003) ∷ [], 3 ∷ 4 ∷ 1 ∷ 0 ∷ [])
     -- 67BF -> (255, 238, 202)
@@ -29,4 +45,8 @@ table =
     ∷ (pairOf 0x1B 0 ∷ pairOf 0x1B 1 ∷ pairOf 0x1B 2 ∷ pairOf 0x1B 3 ∷ [], 0 ∷ 1 ∷ 2 ∷ 3 ∷ [])
     -- shades 0 1 2 3 0 1 2 3 -> planes 55, 33
     ∷ (let a = four (0 ∷ 1 ∷ 2 ∷ 3 ∷ []) in planeOf 0 a a ∷ planeOf 1 a a ∷ [], 0x55 ∷ 0x33 ∷ [])
+    -- ATTR_BLK control 1, byte 02, corners (3,3) (3,3) sets that cell only, to 2; every cell was 3
+    ∷ (attrBlk (oneSet (1 ∷ 0x02 ∷ 3 ∷ 3 ∷ 3 ∷ 3 ∷ [])) allThree, replicate 15 0xFF ++ 0xFE ∷ replicate 74 0xFF)
+    -- control 4, byte 10, x1 5, x2 4 sets all to 1
+    ∷ (attrBlk (oneSet (4 ∷ 0x10 ∷ 5 ∷ 0 ∷ 4 ∷ 17 ∷ [])) allThree, replicate 90 0x55)
     ∷ []
