@@ -1,13 +1,12 @@
 -- The encoder's three answers are the definition's, by the tests that the code makes; and no two outcomes meet one contract.
-use mathlib.Core.Path.{_≡_, refl, sym, ap, ap₂, _∙_}
-use mathlib.Core.Bool.{Bool, true, false, cond}
+use mathlib.Core.Path.{_≡_, refl, sym, ap, _∙_}
 use mathlib.Core.List.{List, _++_}
 use Prim.Native.Nat.{ℕ, _*_, _<_, _≤_}
 use native.Mathlib.Omega.{arith}
 use lib.ListN.{length, drop}
 use borrow.Author.Tests.{lt-ltb, le-ltb}
-use Rattle.pulses.specs.Answer.{Answer, refused, given, encodedAnswer, verdictAnswer}
-use Rattle.pulses.specs.Bytes.{packetsIn, malformed, commandPackets}
+use Rattle.pulses.specs.Answer.{given, encodedAnswer, verdictAnswer}
+use Rattle.pulses.specs.Bytes.{packetsIn, commandPackets}
 use Rattle.pulses.specs.Encode.{pulsesOf, short, encoding, encoded, Encodes}
 use Rattle.pulses.specs.Verdict.{Judges}
 use Rattle.pulses.specs.declared.Encoded.{Encoded}

@@ -2,13 +2,13 @@
 use mathlib.Core.Path.{_≡_, refl, sym, ap, _∙_}
 use mathlib.Core.List.{List, [], _∷_, _++_, append-assoc, append-nil}
 use Prim.Native.Nat.{ℕ, zero, suc, _+_, _-_, _*_, _/_, _%_, _^_, _<_, _≤_}
-use native.Mathlib.Nat.{not-suc-le-zero, le-of-suc-le-suc, zero-add, div-one}
+use native.Mathlib.Nat.{not-suc-le-zero, le-of-suc-le-suc, div-one}
 use native.Mathlib.Decide.{decLt}
 use native.Mathlib.Omega.{arith}
 use lib.ListN.{length, getD, take, drop, length-append, length-drop, List·getD-append}
 use lib.Bits.{bitAnd, and-mask}
 use lib.Pow.{shr-shr}
-use lib.Seq.{getD-append-add, length-take-le, take-all, drop-drop}
+use lib.Seq.{getD-append-add, length-take-le, drop-drop}
 use Rattle.pulses.specs.Encode.{bitsOf, bitsIn, pulse, sent, packetPulses, pulsesOf}
 
 -- ---- bits

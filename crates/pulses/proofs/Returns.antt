@@ -1,6 +1,6 @@
 -- A command turned into pulses and received with no earlier packet held comes back unchanged. By the packets: each stop but the last
 -- leaves the bytes so far at the front of the store and the receiver awaiting the rest; the last answers them.
-use mathlib.Core.Path.{_≡_, refl, sym, ap, ap₂, _∙_, subst}
+use mathlib.Core.Path.{_≡_, refl, sym, ap, _∙_, subst}
 use mathlib.Core.List.{List, [], _∷_, _++_, append-assoc, append-nil}
 use mathlib.Core.Option.{some}
 use mathlib.Core.Bool.{false}
@@ -11,13 +11,13 @@ use lib.Seq.{length-take-le, getD-take, take-at, take-all}
 use Rattle.bits.proofs.Overs.{length-over}
 use Rattle.receiver.specs.Count.{countOf}
 use Rattle.receiver.specs.Store.{bytesOf, appended}
-use Rattle.receiver.specs.Port.{Port, Heard, told, heard}
+use Rattle.receiver.specs.Port.{Port, told, heard}
 use Rattle.receiver.proofs.Words.{length-bytes}
 use Rattle.pulses.specs.Bytes.{Bytes, packetsIn, malformed}
 use Rattle.pulses.specs.Encode.{bitsIn, packetPulses, pulsesOf}
 use Rattle.pulses.specs.Trip.{NoneHeld, resting}
-use Rattle.pulses.proofs.Commands.{Formed, formed}
-use Rattle.pulses.proofs.Round.{value, value-bytes, value-first, awaiting, next-sent, expects, first-sent, Due, by-count, as-told, stop-more, stop-last}
+use Rattle.pulses.proofs.Commands.{formed}
+use Rattle.pulses.proofs.Round.{value, value-bytes, value-first, awaiting, next-sent, expects, first-sent, by-count, as-told, stop-more, stop-last}
 
 -- ---- bytes
 

@@ -1,27 +1,26 @@
 -- The round trip. A data pulse and its release add one bit, so the pulses of a packet, bit by bit from the lowest, make the number whose
 -- bytes are the packet; its stop puts those bytes behind the earlier ones; the last stop answers them all, and leaves the receiver idle.
 use mathlib.Core.Path.{_≡_, refl, sym, ap, ap₂, _∙_}
-use mathlib.Core.Bool.{Bool, true, false, cond}
-use mathlib.Core.List.{List, [], _∷_, _++_, append-assoc, append-nil}
-use mathlib.Core.Option.{none, some}
+use mathlib.Core.Bool.{true}
+use mathlib.Core.List.{List, [], _∷_, _++_, append-assoc}
+use mathlib.Core.Option.{some}
 use Prim.Native.Nat.{ℕ, zero, suc, _+_, _-_, _*_, _/_, _%_, _^_, _<_, _≤_}
 use native.Mathlib.Nat.{mod-lt, mul-assoc, mul-comm, mul-left-comm, add-mul}
 use native.Mathlib.Omega.{arith}
 use lib.Dec.{lit<}
-use lib.ListN.{length, getD, take, drop, replicate, length-append, length-drop, take-append-drop}
+use lib.ListN.{length, getD, take}
 use lib.Pow.{pow-add}
-use lib.Seq.{length-take-le, take-at, take-append-le, take-all}
-use borrow.Author.Tests.{lt-ltb, le-ltb, le-leb, lt-leb, eq-eqb, ne-eqb}
+use borrow.Author.Tests.{lt-ltb, le-leb, lt-leb, eq-eqb, ne-eqb}
 use Rattle.bits.specs.Bit.{bitOf}
 use Rattle.receiver.specs.Count.{countOf}
 use Rattle.receiver.specs.Lines.{p14High, p15High, bothHigh, pulseBy, pulseOf}
 use Rattle.receiver.specs.Receive.{Rx, idle, begun, restarted, dataBit, quiet, kept, counted, stopped, clocked, whenIdle, whenReceiving, whenAwaiting, pulsed, written}
 use Rattle.receiver.specs.Store.{bytesOf, appended, filed, answerOf, emptied}
-use Rattle.receiver.specs.Port.{Port, answered, wrote, Heard, told, heard}
+use Rattle.receiver.specs.Port.{Port, answered, wrote, told, heard}
 use Rattle.receiver.specs.declared.Stage.{Stage}
 use Rattle.receiver.specs.declared.Stage.the-variants.{Idle, Receiving, Awaiting}
 use Rattle.pulses.specs.Bytes.{Bytes}
-use Rattle.pulses.specs.Encode.{bitsOf, bitsIn, pulse, sent, packetPulses, pulsesOf}
+use Rattle.pulses.specs.Encode.{bitsOf, bitsIn, pulse, sent, packetPulses}
 use Rattle.pulses.specs.Trip.{NoneHeldAt, NoneHeld, resting}
 use Rattle.pulses.proofs.Packets.{length-bitsIn}
 

@@ -1,16 +1,16 @@
 -- The code form of the round trip: a run tells what is heard, and of the pulses of a command exactly that command is heard.
-use mathlib.Core.Path.{_≡_, refl, sym, ap, _∙_}
-use mathlib.Core.Bool.{false, true, cond}
+use mathlib.Core.Path.{_≡_, sym, ap, _∙_}
+use mathlib.Core.Bool.{false}
 use mathlib.Core.List.{List, [], _∷_, _++_}
-use Prim.Native.Nat.{ℕ, zero, suc, _+_, _-_, _*_, _<_, _≤_}
+use Prim.Native.Nat.{ℕ, zero, suc, _-_, _*_, _<_, _≤_}
 use native.Mathlib.Omega.{arith}
 use lib.ListN.{length, getD, take, drop}
 use lib.Seq.{length-take-le, take-at}
 use borrow.Author.Tests.{ltb-false}
-use Rattle.receiver.specs.Receive.{Rx, idle}
+use Rattle.receiver.specs.Receive.{idle}
 use Rattle.receiver.specs.Port.{Port, Heard, told, heard}
-use Rattle.run.specs.Run.{Ended, runs, cleared, resumed, Ready}
-use Rattle.run.proofs.Hears.{hears, complete, Complete, ready-runs}
+use Rattle.run.specs.Run.{Ended, runs, resumed, Ready}
+use Rattle.run.proofs.Hears.{hears, complete, ready-runs}
 use Rattle.pulses.specs.Bytes.{Bytes, packetsIn, malformed, commandPackets}
 use Rattle.pulses.specs.Encode.{pulsesOf, short, encoded}
 use Rattle.pulses.specs.Trip.{NoneHeld, resting}

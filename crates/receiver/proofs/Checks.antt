@@ -3,17 +3,17 @@ use mathlib.Core.Path.{_≡_, refl}
 use mathlib.Core.Bool.{Bool, true, false, _&&_, cond}
 use mathlib.Core.List.{List}
 use mathlib.Core.Logic.{_⊎_, inl, inr}
-use Prim.Native.Nat.{ℕ, _*_, _^_, _<_, _≤_}
+use Prim.Native.Nat.{ℕ, _*_, _^_}
 use native.Mathlib.Omega.{arith}
 use lib.Dec.{eqb, leb, ltb}
 use lib.ListN.{getD, drop}
-use borrow.Author.Tests.{eqb-true, eqb-false, ltb-true, leb-true, eq-eqb, ne-eqb, lt-ltb, le-leb}
+use borrow.Author.Tests.{eqb-true, ltb-true, leb-true, eq-eqb, ne-eqb, lt-ltb, le-leb}
 use Rattle.bits.specs.Zero.{zeros}
 use Rattle.receiver.specs.declared.Stage.{Stage}
 use Rattle.receiver.specs.declared.Stage.the-variants.{Idle, Receiving, Awaiting}
 use Rattle.receiver.specs.Count.{countOf}
 use Rattle.receiver.specs.Receive.{Rx}
-use Rattle.receiver.specs.Valid.{Resting, Coming, Between, First, Later, V3At, V3, later, v3At, v3}
+use Rattle.receiver.specs.Valid.{First, Later, V3At, V3, later, v3At, v3}
 use Rattle.receiver.proofs.General.{and-both}
 
 later-says : (e n : ℕ) (s : List ℕ) → later e n s ≡ true → Later e n s

@@ -1,12 +1,12 @@
 -- Document 01's worked examples of the receiver, computed from the definitions.
 use mathlib.Core.Path.{_≡_, refl}
-use mathlib.Core.Bool.{Bool, true, false}
+use mathlib.Core.Bool.{true}
 use mathlib.Core.List.{List, [], _∷_}
 use lib.ListN.{replicate}
 use Prim.Native.Nat.{ℕ}
 use Rattle.bits.specs.Bit.{bitOf}
 use Rattle.receiver.specs.Lines.{p14High, p15High, bothHigh, pulseBy, pulseOf}
-use Rattle.receiver.specs.Receive.{idle, begun, restarted, dataBit, quiet, clocked, whenIdle, whenReceiving, whenAwaiting, pulsed, written}
+use Rattle.receiver.specs.Receive.{idle, begun, dataBit, quiet, clocked, whenIdle, whenReceiving, pulsed, written}
 use Rattle.receiver.specs.Store.{filed, answerOf, emptied}
 use Rattle.receiver.specs.Port.{Port, answered, wrote, told, heard}
 

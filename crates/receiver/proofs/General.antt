@@ -2,10 +2,10 @@
 use mathlib.Core.Path.{_≡_, refl, sym, ap, _∙_}
 use mathlib.Core.Bool.{Bool, true, false, cond, _&&_}
 use mathlib.Core.List.{List, [], _∷_, _++_}
-use Prim.Native.Nat.{ℕ, zero, suc, _+_, _*_, _<_, _≤_}
+use Prim.Native.Nat.{ℕ, zero, suc, _+_, _<_, _≤_}
 use native.Mathlib.Omega.{arith}
 use lib.Dec.{eqb}
-use lib.ListN.{length, getD, take, drop, replicate, length-append, List·getD-append}
+use lib.ListN.{length, getD, take, drop, replicate, List·getD-append}
 use lib.Seq.{length-take-le, getD-take, drop-append-add, drop-at}
 use Rattle.bits.specs.Over.{over}
 use Rattle.bits.specs.Zero.{zeros}

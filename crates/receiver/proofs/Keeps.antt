@@ -1,15 +1,14 @@
 -- A write keeps V3: a restart leaves the counts and the store as they are, a data bit fills the next bit, and a stop either empties all
 -- or adds sixteen bytes at the first free place, which leaves the store's first byte and the zeros past it.
 use mathlib.Core.Path.{_≡_, refl, sym, ap, _∙_}
-use mathlib.Core.Bool.{Bool, true, false, cond}
+use mathlib.Core.Bool.{Bool, true}
 use mathlib.Core.List.{List}
-use mathlib.Core.Logic.{_⊎_, inl, inr, ⊎-elim}
-use Prim.Native.Nat.{ℕ, suc, _+_, _*_, _%_, _^_, _<_, _≤_}
+use mathlib.Core.Logic.{_⊎_, inl, inr}
+use Prim.Native.Nat.{ℕ, suc, _+_, _*_, _%_, _<_, _≤_}
 use native.Mathlib.Omega.{arith}
 use lib.Dec.{eqb, leb, ltb, lit<, lit≤}
 use lib.ListN.{length, getD, drop, replicate}
 use borrow.Author.Tests.{ltb-true, leb-false, eq-eqb, ne-eqb}
-use Rattle.bits.specs.Over.{over}
 use Rattle.bits.specs.Zero.{zeros}
 use Rattle.receiver.specs.declared.Stage.{Stage}
 use Rattle.receiver.specs.declared.Stage.the-variants.{Idle, Receiving, Awaiting}
@@ -19,7 +18,7 @@ use Rattle.receiver.specs.Lines.{Pulse, pulseOf}
 use Rattle.receiver.specs.Receive.{Rx, Step, Sound, idle, begun, restarted, dataBit, quiet, kept, counted, stopped, clocked, whenIdle, whenReceiving, whenAwaiting, pulsed, written}
 use Rattle.receiver.specs.Store.{bytesOf, appended, filed, emptied, packetsOf}
 use Rattle.receiver.specs.Port.{Port, stepAt, wrote}
-use Rattle.receiver.specs.Valid.{Resting, Coming, Between, First, Later, V3At, V3}
+use Rattle.receiver.specs.Valid.{Coming, First, Later, V3At, V3}
 use Rattle.receiver.proofs.General.{either, zeros-drop, zeros-replicate, drop-over, getD-over}
 use Rattle.receiver.proofs.Words.{length-bytes}
 use Rattle.receiver.proofs.Sound.{count-few, good-written, length-filed, length-emptied, bit-below}

@@ -1,19 +1,18 @@
 -- A write by its lines first, as the code tests them, is the write by its stage first, as document 01 tells it: a release changes
 -- nothing at any stage, a start pulse restarts at any stage (of an idle receiver all counts are zero), and one line low clocks.
-use mathlib.Core.Path.{_≡_, refl, sym, ap, ap₂, _∙_}
-use mathlib.Core.Bool.{Bool, true, false, not, _&&_}
-use Prim.Native.Nat.{ℕ, zero, suc, _+_, _*_, _/_, _%_, _^_, _<_}
+use mathlib.Core.Path.{_≡_, refl, sym, ap₂, _∙_}
+use mathlib.Core.Bool.{Bool, false, _&&_}
+use Prim.Native.Nat.{ℕ, zero, suc, _+_, _*_, _/_, _%_, _<_}
 use native.Mathlib.Nat.{mod-lt}
 use native.Mathlib.Omega.{arith}
 use lib.Dec.{eqb, lit<}
 use lib.Bits.{bitAnd, and-high, and-mask}
-use borrow.Author.Tests.{eq-eqb, ne-eqb}
 use Rattle.bits.specs.Bit.{bitOf}
 use Rattle.receiver.specs.declared.Stage.{Stage}
 use Rattle.receiver.specs.declared.Stage.the-variants.{Idle, Receiving, Awaiting}
 use Rattle.receiver.specs.Lines as L
 use Rattle.receiver.specs.Lines.{Pulse, pulseBy, pulseOf, p14High, p15High, bothHigh}
-use Rattle.receiver.specs.Receive.{Rx, Step, Sound, begun, restarted, quiet, clocked, whenIdle, whenReceiving, whenAwaiting, pulsed, written}
+use Rattle.receiver.specs.Receive.{Rx, Sound, begun, restarted, quiet, clocked, whenIdle, whenReceiving, whenAwaiting, pulsed, written}
 
 -- ---- which pulse a masked byte is
 

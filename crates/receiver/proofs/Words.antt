@@ -1,13 +1,11 @@
 -- A packet in two words is one number, since a word shifted by 64 leaves the low 64 bits free; a data bit adds its power of two, and a
 -- byte of a word is a byte of the number.
 use mathlib.Core.Path.{_≡_, refl, sym, ap, _∙_}
-use mathlib.Core.List.{List, [], _∷_}
 use Prim.Native.Nat.{ℕ, _+_, zero, suc, _-_, _*_, _/_, _%_, _^_, _<_, _≤_}
 use native.Mathlib.Nat.{div-one, not-suc-le-zero, le-of-suc-le-suc, mul-assoc}
 use native.Mathlib.Omega.{arith}
-use lib.Dec.{lit<}
 use lib.ListN.{length, getD}
-use lib.Pow.{shl-exact, pow-pos, pow-mono, pow-add, shr-shr, field, mod-mod-pow, high, low}
+use lib.Pow.{shl-exact, pow-mono, pow-add, shr-shr, field, mod-mod-pow, high, low}
 use lib.Bits.{bitAnd, bitOr, and-mask, or-shifted-r}
 use Rattle.receiver.specs.Receive.{words}
 use Rattle.receiver.specs.Store.{bytesOf}

@@ -1,6 +1,6 @@
 -- A run tells what is heard: a write that completes no command answers none and empties nothing, and the run ends at the first that does.
 -- It ends within its writes, and keeps what it requires.
-use mathlib.Core.Path.{_≡_, refl, sym, ap, ap₂, _∙_}
+use mathlib.Core.Path.{_≡_, refl, sym, ap, _∙_}
 use mathlib.Core.List.{List, [], _∷_}
 use mathlib.Core.Option.{Option, none, some}
 use Prim.Native.Nat.{ℕ, zero, suc, _+_, _-_, _*_, _<_, _≤_}
@@ -10,9 +10,9 @@ use lib.ListN.{length, take, drop, replicate}
 use Rattle.receiver.specs.declared.Done.{Done}
 use Rattle.receiver.specs.declared.Done.the-variants.{Nothing, Packet, Command}
 use Rattle.receiver.specs.Lines.{pulseOf, indexed}
-use Rattle.receiver.specs.Receive.{Rx, Sound, idle}
+use Rattle.receiver.specs.Receive.{Sound, idle}
 use Rattle.receiver.specs.Store.{answerOf, emptied, packetsOf, Fits}
-use Rattle.receiver.specs.Port.{Port, stepAt, filedAt, answered, wrote, Heard, told, heard}
+use Rattle.receiver.specs.Port.{Port, stepAt, filedAt, answered, wrote, told, heard}
 use Rattle.receiver.proofs.Keeps.{completes-idle}
 use Rattle.receiver.proofs.Sound.{good-written}
 use Rattle.run.specs.Run.{Ended, lined, onward, runs, cleared, resumed, Ready}

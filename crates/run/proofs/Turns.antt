@@ -1,26 +1,23 @@
 -- A turn of a run is a write: what the code has at hand after it is the rule's port, and the run goes on from there or ends. A run tells
 -- what is heard, since a write that completes no command leaves nothing to clear.
-use mathlib.Core.Path.{_≡_, refl, sym, ap, ap₂, _∙_}
-use mathlib.Core.Bool.{Bool, true, false, cond, _&&_, not}
-use mathlib.Core.List.{List, [], _∷_}
-use mathlib.Core.Option.{none, some}
-use Prim.Native.Nat.{ℕ, zero, suc, _+_, _-_, _*_, _<_, _≤_}
+use mathlib.Core.Path.{_≡_, refl, ap, ap₂, _∙_}
+use mathlib.Core.Bool.{Bool, _&&_, not}
+use mathlib.Core.List.{List, []}
+use Prim.Native.Nat.{ℕ, zero, suc, _+_, _<_}
 use native.Mathlib.Numerals.{add-one}
 use native.Mathlib.Omega.{arith}
-use lib.Bits.{bitAnd, and-le-r}
-use lib.ListN.{length, getD, take, drop}
+use lib.Bits.{and-le-r}
+use lib.ListN.{length, getD, drop}
 use lib.Seq.{drop-cons}
-use Rattle.receiver.specs.declared.Done.{Done}
-use Rattle.receiver.specs.declared.Done.the-variants.{Nothing, Packet, Command}
 use Rattle.receiver.specs.declared.Receiver.{Receiver}
 use Rattle.receiver.specs.declared.Written.{Written}
 use Rattle.receiver.specs.Lines.{p15High, bothHigh, pulseOf, indexed}
-use Rattle.receiver.specs.Receive.{Rx, Step, words, rxOf, stepOf, Sound, written}
-use Rattle.receiver.specs.Store.{filed, answerOf, emptied, packetsOf, Fits}
-use Rattle.receiver.specs.Port.{Port, stepAt, filedAt, answered, wrote, Heard, told, heard}
+use Rattle.receiver.specs.Receive.{Rx, Step, words, rxOf, stepOf, written}
+use Rattle.receiver.specs.Store.{filed, packetsOf}
+use Rattle.receiver.specs.Port.{Port, stepAt}
 use Rattle.receiver.proofs.General.{either}
 use Rattle.receiver.proofs.Sound.{good-written, length-filed}
-use Rattle.run.specs.Run.{Ended, lined, onward, runs, cleared, resumed, Ready}
+use Rattle.run.specs.Run.{Ended, lined, onward, runs, Ready}
 
 index-small : (x m : ℕ) (was : Bool) (v : ℕ) → x < 255 → m < 255 → indexed x m was v < 255
 unfolding indexed

@@ -1,7 +1,6 @@
 -- No packets means malformed, too little room is refused, and else the packets are written.
 use borrow.Author.Needs.{needs}
-use mathlib.Core.Path.{_≡_, sym, ap, _∙_}
-use Prim.Native.Nat.{_*_, _≤_, _<_}
+use mathlib.Core.Path.{ap, _∙_}
 use native.Mathlib.Omega.{arith}
 use lib.ListN.{length}
 use Rattle.pulses.proofs.Commands.{some-formed, packets-few}

@@ -1,11 +1,8 @@
 -- No packets means malformed, and else the rule's answer is the definition's.
 use borrow.Author.Needs.{needs}
-use mathlib.Core.Path.{_≡_, sym, ap, _∙_}
-use Prim.Native.Nat.{_≤_}
+use mathlib.Core.Path.{sym, _∙_}
 use native.Mathlib.Omega.{arith}
-use lib.ListN.{length}
 use Rattle.pulses.specs.Answer.{verdictAnswer}
-use Rattle.pulses.specs.Bytes.{commandPackets}
 use Rattle.pulses.specs.Verdict.{judged}
 use Rattle.pulses.proofs.Commands.{none-malformed, some-formed}
 use Rattle.pulses.proofs.verdict.Statement.{statement}

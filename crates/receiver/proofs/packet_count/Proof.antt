@@ -7,11 +7,11 @@ use Rattle.receiver.proofs.packet_count.Tie as tie
 
 returns : tie.Need-returns
 unfolding codeOf countOf
-returns c = simp (le-leb _ _ (c .if1 .taken))
+returns c = simp (le-leb 0x1E _ (c .if1 .taken))
 
 returns-2 : tie.Need-returns-2
 unfolding codeOf countOf
-returns-2 c = simp (lt-leb _ _ (c .if1 .left)) (and-mask _ 3)
+returns-2 c = simp (lt-leb 0x1E _ (c .if1 .left)) (and-mask _ 3)
 
 pub packet-count-spec : {M : Type 1} → statement M
 packet-count-spec = tie.close (tie.spec returns returns-2)

@@ -1,6 +1,5 @@
 -- Each arm knows its stage, and the definition computes there.
 use borrow.Author.Needs.{needs}
-use mathlib.Core.Path.{refl}
 use Rattle.receiver.specs.Receive.{stageNumber}
 use Rattle.receiver.proofs.stage_number.Statement.{statement}
 use Rattle.receiver.proofs.stage_number.Tie as tie

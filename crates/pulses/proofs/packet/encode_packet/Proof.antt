@@ -1,5 +1,4 @@
 -- Each turn writes two pulses more of the packet, behind the two of the start, and the stop is the last two.
-use borrow.Author.Needs.{needs}
 use mathlib.Core.Path.{_≡_, _∙_}
 use Prim.Native.Nat.{_+_, _-_, _*_, _≤_, _<_}
 use native.Mathlib.Omega.{arith}

@@ -1,15 +1,12 @@
 -- Each turn puts the next packet's 260 pulses behind those before it.
 use borrow.Author.Needs.{needs}
-use mathlib.Core.Path.{_≡_, refl, sym, ap, _∙_}
+use mathlib.Core.Path.{_≡_, refl, ap, _∙_}
 use mathlib.Core.List.{_++_}
 use Prim.Native.Nat.{_+_, _-_, _*_, _≤_, _<_}
 use native.Mathlib.Omega.{arith}
-use lib.ListN.{length, take, drop, length-drop}
+use lib.ListN.{length, drop, length-drop}
 use lib.Seq.{length-take-le}
-use Rattle.bits.specs.Over.{over}
-use Rattle.bits.proofs.Overs.{length-over}
-use Rattle.pulses.specs.Encode.{packetPulses, pulsesOf}
-use Rattle.pulses.proofs.Packets.{length-packet}
+use Rattle.pulses.specs.Encode.{pulsesOf}
 use Rattle.pulses.proofs.Front.{next-turn, length-so-far}
 use Rattle.pulses.proofs.packet.encode_packets.Statement.{statement}
 use Rattle.pulses.proofs.packet.encode_packets.Tie as tie

@@ -1,10 +1,6 @@
 -- The masked shift is the bit.
 use borrow.Author.Needs.{needs}
-use mathlib.Core.Path.{_≡_, sym, ap, _∙_}
-use Prim.Native.Nat.{zero, suc, _/_, _%_, _^_}
-use native.Mathlib.Omega.{arith}
-use lib.Bits.{and-mask}
-use Rattle.pulses.specs.Encode.{pulse}
+use Prim.Native.Nat.{_/_, _^_}
 use Rattle.pulses.proofs.Packets.{pulse-zero, pulse-one}
 use Rattle.pulses.proofs.packet.pulse_of.Statement.{statement}
 use Rattle.pulses.proofs.packet.pulse_of.Tie as tie

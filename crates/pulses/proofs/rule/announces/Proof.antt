@@ -2,7 +2,6 @@
 use borrow.Author.Needs.{needs}
 use mathlib.Core.Path.{_∙_}
 use borrow.Author.Tests.{eq-eqb, ne-eqb}
-use native.Mathlib.Omega.{arith}
 use Rattle.bits.specs.Word.{wordAt}
 use Rattle.pulses.specs.Verdict.{announces}
 use Rattle.pulses.proofs.rule.announces.Statement.{statement}

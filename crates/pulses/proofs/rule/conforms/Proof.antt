@@ -2,10 +2,8 @@
 use borrow.Author.Needs.{needs}
 use mathlib.Core.Path.{_∙_, sym}
 use borrow.Author.Tests.{le-leb, lt-leb}
-use native.Mathlib.Omega.{arith}
 use Rattle.receiver.specs.Count.{codeOf}
-use Rattle.pulses.specs.Bytes.{packetsIn}
-use Rattle.pulses.specs.Verdict.{mostPackets, conformsBy, conforms}
+use Rattle.pulses.specs.Verdict.{conformsBy, conforms}
 use Rattle.pulses.proofs.rule.conforms.Statement.{statement}
 use Rattle.pulses.proofs.rule.conforms.Tie as tie
 
@@ -14,21 +12,21 @@ shared-slice-read-code c = search needs
 
 returns : tie.Need-returns
 unfolding conforms conformsBy codeOf
-returns c = rw (lt-leb _ _ (c .if1 .taken))
+returns c = rw (lt-leb _ 0x19 (c .if1 .taken))
 
 most-packets-requires : tie.Need-most-packets-requires
 most-packets-requires c κs = search needs
 
 returns-2 : tie.Need-returns-2
 unfolding conforms conformsBy codeOf
-returns-2 c = rw (le-leb _ _ (c .before .before .if1 .left), sym (c .before .before .before .before .before .pre .1), sym (c .before .most-packets .ensures), lt-leb _ _ (c .if2 .taken))
+returns-2 c = rw (le-leb _ 0x19 (c .before .before .if1 .left), sym (c .before .before .before .before .before .pre .1), sym (c .before .most-packets .ensures), lt-leb _ _ (c .if2 .taken))
 
 announces-requires : tie.Need-announces-requires
 announces-requires c κs = search needs
 
 returns-3 : tie.Need-returns-3
 unfolding conforms conformsBy codeOf
-returns-3 c = c .announces .ensures ∙ rw (le-leb _ _ (c .before .before .before .if1 .left), sym (c .before .before .before .before .before .before .pre .1), sym (c .before .before .most-packets .ensures), le-leb _ _ (c .before .if2 .left))
+returns-3 c = c .announces .ensures ∙ rw (le-leb _ 0x19 (c .before .before .before .if1 .left), sym (c .before .before .before .before .before .before .pre .1), sym (c .before .before .most-packets .ensures), le-leb _ _ (c .before .if2 .left))
 
 pub conforms-spec : {M : Type 1} → statement M
 conforms-spec =

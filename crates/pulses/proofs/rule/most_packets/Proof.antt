@@ -1,6 +1,5 @@
 -- The tests are the definition's.
 use borrow.Author.Tests.{eq-eqb, ne-eqb}
-use native.Mathlib.Omega.{arith}
 use Rattle.pulses.specs.Verdict.{mostPackets}
 use Rattle.pulses.proofs.rule.most_packets.Statement.{statement}
 use Rattle.pulses.proofs.rule.most_packets.Tie as tie

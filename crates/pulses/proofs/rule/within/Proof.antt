@@ -1,5 +1,5 @@
 -- The two tests are the definition's.
-use borrow.Author.Tests.{eq-eqb, ne-eqb, le-leb, lt-leb}
+use borrow.Author.Tests.{le-leb, lt-leb}
 use native.Mathlib.Omega.{arith}
 use Rattle.pulses.proofs.rule.within.Statement.{statement}
 use Rattle.pulses.proofs.rule.within.Tie as tie

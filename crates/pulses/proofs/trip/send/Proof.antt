@@ -1,7 +1,6 @@
 -- The encoder writes the command's pulses, and their run hands the command back.
 use borrow.Author.Needs.{needs}
-use mathlib.Core.Path.{_≡_, sym, ap, _∙_}
-use Prim.Native.Nat.{_*_, _-_, _≤_}
+use Prim.Native.Nat.{_*_, _-_}
 use native.Mathlib.Omega.{arith}
 use Rattle.run.specs.Run.{portOf, endedOf}
 use Rattle.pulses.proofs.Commands.{packets-few}
