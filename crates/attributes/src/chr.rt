@@ -55,25 +55,17 @@ fn run(map: [[u8; 20]; 18], d: &[u8], start: Spot, along: bool, total: usize) ->
     let mut s = start;
     let mut k: usize = 0;
     while k < total {
-        let n = put_at(m, s, bits::pair(d[6 + k / 4], (k % 4) as u8));
-        m = n;
+        let v = bits::pair(d[6 + k / 4], (k % 4) as u8);
+        let x = s.x;
+        let y = s.y;
+        // A place off the map uses v up.
+        if x < 20 {
+            if y < 18 {
+                m[y][x] = v;
+            }
+        }
         s = s.next(along);
         k += 1;
-    }
-    m
-}
-
-// A place off the map uses v up.
-fn put_at(map: [[u8; 20]; 18], s: Spot, v: u8) -> [[u8; 20]; 18]
-    ensures { λ r. ⌜ r ≡ putAt s v map ⌝ }
-{
-    let mut m = map;
-    let x = s.x;
-    let y = s.y;
-    if x < 20 {
-        if y < 18 {
-            m[y][x] = v;
-        }
     }
     m
 }

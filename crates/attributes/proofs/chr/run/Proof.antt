@@ -1,7 +1,9 @@
 -- Each turn puts the next pair at its place and goes on to the place after it.
-use mathlib.Core.Path.{ap, _∙_}
+use mathlib.Core.Path.{_≡_, ap, _∙_}
+use mathlib.Core.Logic.{⊎-elim}
 use Prim.Native.Nat.{_≤_, _+_, _-_}
 use native.Mathlib.Omega.{arith}
+use borrow.Author.Tests.{lt-ltb, le-ltb}
 use borrow.Author.Needs.{needs}
 use Rattle.attributes.specs.Data.{steps}
 use Rattle.attributes.specs.Chr.{placeOf, putAt, pairOfData}
@@ -32,8 +34,14 @@ cast-pair c = search needs
 pair-requires : tie.Need-pair-requires Inv-loop μ-loop
 pair-requires c κs = search needs
 
-put-at-requires : tie.Need-put-at-requires Inv-loop μ-loop
-put-at-requires c κs = search needs
+mul-m : tie.Need-mul-m Inv-loop μ-loop
+mul-m c = search needs
+
+index-1-m : tie.Need-index-1-m Inv-loop μ-loop
+index-1-m c = search needs
+
+index-2-m : tie.Need-index-2-m Inv-loop μ-loop
+index-2-m c = search needs
 
 next-requires : tie.Need-next-requires Inv-loop μ-loop
 next-requires c κs =
@@ -49,13 +57,20 @@ loop-less : tie.Need-loop-less Inv-loop μ-loop
 loop-less c = search needs
 
 loop-again : tie.Need-loop-again Inv-loop μ-loop
-unfolding pairOfData
+unfolding pairOfData putAt
 loop-again c =
-    let l = c .before .before .before .before .before .loop .inv in (
+    let l = c .before .before .before .before .before .loop in
+    let put : c .before .if1 .m ≡ putAt (l .s) (c .before .before .pair .result) (l .m) =
+    ⊎-elim (λ w. rw (w .2, lt-ltb _ _ (w .0 .taken), lt-ltb _ _ (w .1 .taken)))
+    (λ e.
+    ⊎-elim (λ w. rw (w .2, lt-ltb _ _ (w .0 .taken), le-ltb _ _ (w .1 .left)))
+    (λ w. rw (w .1, le-ltb _ _ (w .0 .left)))
+    e)
+    (c .before .if1 .came) in (
       omega arith,
-      near-next _ (l .1) (c .next .ensures) _ (omega arith),
-      placed-more (l .2) (c .next .ensures),
-      after-more (l .3) (c .before .put-at .ensures ∙ rw (l .2 .is, c .before .before .pair .ensures)),
+      near-next _ (l .inv .1) (c .next .ensures) _ (omega arith),
+      placed-more (l .inv .2) (c .next .ensures),
+      after-more (l .inv .3) (put ∙ rw (l .inv .2 .is, c .before .before .pair .ensures)),
     )
 
 returns : tie.Need-returns Inv-loop μ-loop
@@ -74,7 +89,9 @@ run-spec =
     shared-slice-read-pair
     cast-pair
     pair-requires
-    put-at-requires
+    mul-m
+    index-1-m
+    index-2-m
     next-requires
     add-k
     loop-less
