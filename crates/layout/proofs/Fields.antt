@@ -53,11 +53,6 @@ stage-of-number Awaiting = refl
 
 -- ---- the packet
 
-pub length-bytesOf : (n x : ℕ) → length (bytesOf n x) ≡ n
-unfolding bytesOf
-length-bytesOf zero x = refl
-length-bytesOf (suc n) x = ap suc (length-bytesOf n (x / 256))
-
 pub bytes-of-value : (l : List ℕ) → areBytes l ≡ true → bytesOf (length l) (valueOf l) ≡ l
 unfolding bytesOf valueOf
 bytes-of-value [] e = refl

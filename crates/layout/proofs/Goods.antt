@@ -17,13 +17,14 @@ use Rattle.receiver.specs.Valid.{V3At, v3 as receiverValid}
 use Rattle.receiver.specs.declared.Stage.{Stage}
 use Rattle.receiver.specs.declared.Stage.the-variants.{Idle, Receiving, Awaiting}
 use Rattle.receiver.proofs.Checks.{v3-says, v3-true}
+use Rattle.receiver.proofs.Words.{length-bytes}
 use Rattle.layout.specs.Layout.{maskAt, indexAt, padsAt, p15At, bothAt, stageAt, expectedAt, receivedAt, bitsAt, presetOnAt, countdownAt, kindAt, frozenOnAt, spareAt, spareBytes, headerBytes, packetAt, packetBytes, storeAt, storeBytes, presetAt, presetBytes, palettesAt, palettesBytes, mapAt, mapBytes, systemAt, systemBytes, filesAt, filesBytes, liveAt, captureBytes, frozenAt, tilesAt, tilesBytes, borderMapAt, borderMapBytes, borderPalettesAt, borderPalettesBytes, sizes}
 use Rattle.layout.specs.Block.{byte, flag, isSet, isHeld, valueOf, load, save, parts}
 use Rattle.layout.specs.Valid.{v1, v2, v3, v4, v5, v6, maskAllows, validParts, valid}
 use Rattle.layout.specs.Sgb.{Sgb}
 use Rattle.layout.specs.Good.{Good, GoodPort, GoodGame, GoodSnes}
 use Rattle.layout.proofs.Cut.{sum, get-part, length-flat}
-use Rattle.layout.proofs.Fields.{set-of-flag, stage-of-number, length-bytesOf, value-of-bytes, held-number, held-sized, held-length, held-again, pending-good, pending-again, pending-timed, flag-small, held-small, stage-small, held-clear, are-bytesOf}
+use Rattle.layout.proofs.Fields.{set-of-flag, stage-of-number, value-of-bytes, held-number, held-sized, held-length, held-again, pending-good, pending-again, pending-timed, flag-small, held-small, stage-small, held-clear, are-bytesOf}
 use Rattle.layout.proofs.Saved.{Clauses, clauses, two, long-part}
 
 -- ---- from the block to the unit
@@ -86,7 +87,7 @@ module _ (u : Sgb) (g : Good u) where
   pub sized : map length (parts u) ≡ sizes
   sized =
       λ t.
-      16 ∷ length-bytesOf packetBytes (u .port .rx .packet) t ∷ g .port .store t ∷ held-length presetBytes (u .game .preset) (g .game .preset) t
+      16 ∷ length-bytes packetBytes (u .port .rx .packet) t ∷ g .port .store t ∷ held-length presetBytes (u .game .preset) (g .game .preset) t
       ∷ g .game .palettes t ∷ g .game .map t ∷ g .snes .system t ∷ g .snes .files t ∷ g .snes .live t
       ∷ held-length captureBytes (u .game .frozen) (g .game .frozen) t ∷ g .snes .tiles t ∷ g .snes .borderMap t ∷ g .snes .borderPalettes t ∷ []
 

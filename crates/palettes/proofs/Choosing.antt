@@ -9,7 +9,7 @@ use lib.Seq.{drop-drop}
 use Rattle.bits.specs.Over.{over}
 use Rattle.bits.proofs.Overs.{length-part}
 use Rattle.palettes.specs.Palettes.{paletteBytes, palettesBytes, systemBytes, systemNumber, chosen, palSet}
-use Rattle.palettes.proofs.General.{over-next}
+use Rattle.bits.proofs.Overs.{over-next}
 
 -- the first i palettes chosen
 unfoldable pub first : List ℕ → List ℕ → ℕ → List ℕ

@@ -1,4 +1,3 @@
 pub mod Choosing
-pub mod General
 pub mod Lengths
 pub mod Vectors

@@ -7,7 +7,7 @@ use native.Mathlib.Omega.{arith}
 use lib.Dec.{eqb, lit≤}
 use lib.ListN.{length, getD}
 use borrow.Author.Tests.{eqb-true, eqb-false, eq-eqb, ne-eqb, not-false}
-use Rattle.receiver.proofs.General.{either}
+use Rattle.bits.proofs.Tests.{either}
 use Rattle.receiver.proofs.Sound.{count-few}
 use Rattle.pulses.specs.Bytes.{packetsIn, malformed, commandPackets}
 

@@ -14,7 +14,7 @@ use Rattle.receiver.specs.declared.Stage.the-variants.{Idle, Receiving, 
 use Rattle.receiver.specs.Count.{countOf}
 use Rattle.receiver.specs.Receive.{Rx}
 use Rattle.receiver.specs.Valid.{First, Later, V3At, V3, later, v3At, v3}
-use Rattle.receiver.proofs.General.{and-both}
+use Rattle.bits.proofs.Tests.{and-both}
 
 later-says : (e n : ℕ) (s : List ℕ) → later e n s ≡ true → Later e n s
 unfolding later

@@ -19,7 +19,9 @@ use Rattle.receiver.specs.Receive.{Rx, Step, Sound, idle, begun, restart
 use Rattle.receiver.specs.Store.{bytesOf, appended, filed, emptied, packetsOf}
 use Rattle.receiver.specs.Port.{Port, stepAt, wrote}
 use Rattle.receiver.specs.Valid.{Coming, First, Later, V3At, V3}
-use Rattle.receiver.proofs.General.{either, zeros-drop, zeros-replicate, drop-over, getD-over}
+use Rattle.bits.proofs.Overs.{drop-over, getD-over}
+use Rattle.bits.proofs.Tests.{either}
+use Rattle.bits.proofs.Zeros.{replicate-zeros, zeros-drop}
 use Rattle.receiver.proofs.Words.{length-bytes}
 use Rattle.receiver.proofs.Sound.{count-few, good-written, length-filed, length-emptied, bit-below}
 
@@ -101,7 +103,7 @@ kept-v3 : (r : Rx) (n : ℕ) (s : List ℕ) → length s ≡ 112 → r .received
 unfolding kept emptied filed
 kept-v3 r n s l m k c z =
     either (λ (x : Step). After x (r .packet) s) (leb n (r .received + 1))
-    (λ e. rests (replicate 112 0) (zeros-replicate 112))
+    (λ e. rests (replicate 112 0) (replicate-zeros 112))
     (λ e. (
       record { bits = refl; packet = refl },
       record {

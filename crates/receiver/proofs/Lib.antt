@@ -1,6 +1,5 @@
 pub mod Checks
 pub mod Examples
-pub mod General
 pub mod Keeps
 pub mod Pulses
 pub mod Sound

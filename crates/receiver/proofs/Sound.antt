@@ -20,7 +20,7 @@ use Rattle.receiver.specs.Lines as L
 use Rattle.receiver.specs.Lines.{Pulse}
 use Rattle.receiver.specs.Receive.{Rx, Step, stepOf, Sound, idle, begun, restarted, dataBit, quiet, kept, counted, stopped, clocked, whenIdle, whenReceiving, whenAwaiting, pulsed, written}
 use Rattle.receiver.specs.Store.{bytesOf, appended, filed, emptied, Fits}
-use Rattle.receiver.proofs.General.{either}
+use Rattle.bits.proofs.Tests.{either}
 use Rattle.receiver.proofs.Words.{length-bytes}
 
 -- the receiver after a step is sound, and what the step completed has its place

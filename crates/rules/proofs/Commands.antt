@@ -1,25 +1,20 @@
 -- Every command of sixteen bytes or more keeps a good unit good: each part keeps its size, and the mask has its frozen capture.
-use mathlib.Core.Path.{_≡_, refl, sym, ap, _∙_}
-use mathlib.Core.Bool.{Bool, true, false, cond, _&&_}
+use mathlib.Core.Path.{_≡_, refl}
+use mathlib.Core.Bool.{Bool, true, false, cond}
 use mathlib.Core.List.{List, [], _∷_}
 use mathlib.Core.Option.{Option, none, some}
 use Prim.Native.Nat.{ℕ, zero, suc, _*_, _/_, _%_, _<_, _≤_}
 use native.Mathlib.Omega.{arith}
-use borrow.Author.Tests.{ltb-true, eqb-false, ne-eqb, le-leb}
-use lib.Dec.{lit<, lit≤, eqb, leb, ltb}
+use borrow.Author.Tests.{eqb-false, ne-eqb}
+use lib.Dec.{lit<, lit≤, eqb}
 use lib.ListN.{length, getD}
 use Rattle.bits.specs.Bit.{bitOf}
-use Rattle.bits.specs.Over.{part}
-use Rattle.bits.proofs.Overs.{length-part}
-use Rattle.attribute_map.specs.Map.{mapBytes}
-use Rattle.attribute_map.proofs.Packing.{length-pack}
 use Rattle.palettes.proofs.Lengths.{length-pal-pair, length-pal-set}
 use Rattle.commands.specs.Command as command
 use Rattle.commands.specs.Command.{Command, Row, table, find, masking, decode}
-use Rattle.commands.specs.Files.{fileOf, attrSetMap, palSetMap}
 use Rattle.commands.specs.Maps as maps
 use Rattle.commands.specs.Mask.{cancelled}
-use Rattle.commands.specs.Pads.{mltReq}
+use Rattle.commands.proofs.Sizes.{length-attr-blk, length-attr-lin, length-attr-div, length-attr-chr, length-attr-set, length-pal-set as length-pal-set-map}
 use Rattle.transfer.specs.declared.pending.Transfer.{Transfer}
 use Rattle.transfer.specs.declared.pending.Transfer.the-variants.{Palettes, Attributes, BorderTiles, BorderMap}
 use Rattle.layout.specs.Good.{GoodGame, GoodSnes, SizedIf}
@@ -31,7 +26,7 @@ use Rattle.rules.proofs.Pads.{pads-good, mlt-few, mlt-within}
 
 -- ---- one place of the game's part
 
-palettes-good : (g : Game) (p : List ℕ) → GoodGame g → length p ≡ 32 → GoodGame (withPalettes p g)
+pub palettes-good : (g : Game) (p : List ℕ) → GoodGame g → length p ≡ 32 → GoodGame (withPalettes p g)
 unfolding withPalettes
 palettes-good g p h e = record {
   mask = h .mask;
@@ -44,7 +39,7 @@ palettes-good g p h e = record {
   frozen = h .frozen;
 }
 
-map-good : (g : Game) (m : List ℕ) → GoodGame g → length m ≡ 90 → GoodGame (withMap m g)
+pub map-good : (g : Game) (m : List ℕ) → GoodGame g → length m ≡ 90 → GoodGame (withMap m g)
 unfolding withMap
 map-good g m h e = record {
   mask = h .mask;
@@ -57,7 +52,7 @@ map-good g m h e = record {
   frozen = h .frozen;
 }
 
-mask-good : (g : Game) (m : ℕ) (f : Option (List ℕ)) → GoodGame g → m ≤ 3 → maskAllows m (isHeld f) ≡ true → SizedIf 5760 f → GoodGame (withMask m f g)
+pub mask-good : (g : Game) (m : ℕ) (f : Option (List ℕ)) → GoodGame g → m ≤ 3 → maskAllows m (isHeld f) ≡ true → SizedIf 5760 f → GoodGame (withMask m f g)
 unfolding withMask
 mask-good g m f h few e k = record {
   mask = few;
@@ -71,35 +66,13 @@ mask-good g m f h few e k = record {
 }
 
 -- a mask that is cancelled allows what there is; one that is not stays
-unmasked-good : (g : Game) (flags : ℕ) → GoodGame g → GoodGame (withoutMask flags g)
+pub unmasked-good : (g : Game) (flags : ℕ) → GoodGame g → GoodGame (withoutMask flags g)
 unfolding withoutMask cancelled
 unmasked-good g flags h = go (bitOf 6 flags)
   where
     go : (t : Bool) → GoodGame (withMask (cond t 0 (g .mask)) (g .frozen) g)
     go true = mask-good g 0 (g .frozen) h (lit≤ tt) (unfold maskAllows in refl) (h .frozen)
     go false = mask-good g (g .mask) (g .frozen) h (h .mask) (h .allowed) (h .frozen)
-
--- ---- an attribute file
-
-file-long : (n : ℕ) (files m : List ℕ) → length files ≡ 4050 → length m ≡ 90 → length (fileOf n files m) ≡ 90
-unfolding fileOf
-file-long n files m h e = go (ltb n 45) refl
-  where
-    go : (t : Bool) → ltb n 45 ≡ t → length (cond t (part (90 * n) 90 files) m) ≡ 90
-    go true q = let lt : n < 45 = ltb-true n 45 q in length-part (90 * n) 90 files (omega arith)
-    go false q = e
-
-set-long : (flags : ℕ) (files m : List ℕ) → length files ≡ 4050 → length m ≡ 90 → length (attrSetMap flags files m) ≡ 90
-unfolding attrSetMap
-set-long flags files m h e = file-long (flags % 64) files m h e
-
-pal-long : (flags : ℕ) (files m : List ℕ) → length files ≡ 4050 → length m ≡ 90 → length (palSetMap flags files m) ≡ 90
-unfolding palSetMap
-pal-long flags files m h e = go (bitOf 7 flags)
-  where
-    go : (t : Bool) → length (cond t (attrSetMap flags files m) m) ≡ 90
-    go true = set-long flags files m h e
-    go false = e
 
 -- ---- any command
 
@@ -178,17 +151,17 @@ find-all P k (r ∷ rs) (more p ps) z = either (eqb k (r .code)) (find-all P k r
     either false q = q
 
 pub command-keeps : (d : List ℕ) → 16 ≤ length d → Keeps (decode d)
-unfolding decode plainly fixedly sent maps.attrBlk maps.attrLin maps.attrDiv maps.attrChr
+unfolding decode plainly fixedly sent
 command-keeps d l =
     find-all Keeps (getD d 0 0 / 8) (table d)
     (more (pair-keeps 0 1 d (lit< tt) (lit< tt) l)
     (more (pair-keeps 2 3 d (lit< tt) (lit< tt) l)
     (more (pair-keeps 0 3 d (lit< tt) (lit< tt) l)
     (more (pair-keeps 1 2 d (lit< tt) (lit< tt) l)
-    (more (map-keeps (command.attrBlk d) (maps.attrBlk d) (λ g. refl) (λ m. length-pack _))
-    (more (map-keeps (command.attrLin d) (maps.attrLin d) (λ g. refl) (λ m. length-pack _))
-    (more (map-keeps (command.attrDiv d) (λ m. maps.attrDiv d) (λ g. refl) (λ m. length-pack _))
-    (more (map-keeps (command.attrChr d) (maps.attrChr d) (λ g. refl) (λ m. length-pack _))
+    (more (map-keeps (command.attrBlk d) (maps.attrBlk d) (λ g. refl) (length-attr-blk d))
+    (more (map-keeps (command.attrLin d) (maps.attrLin d) (λ g. refl) (length-attr-lin d))
+    (more (map-keeps (command.attrDiv d) (λ m. maps.attrDiv d) (λ g. refl) (λ m. length-attr-div d))
+    (more (map-keeps (command.attrChr d) (maps.attrChr d) (λ g. refl) (length-attr-chr d))
     (more (set-keeps (command.palSet d) pal-set (λ s. refl))
     (more (transfer-keeps Palettes)
     (more (plain-keeps (command.mltReq (getD d 1 0)) (λ g h. pads-good g _ _ h (mlt-few (getD d 1 0) (g .index)) (mlt-within (getD d 1 0) (g .index))))
@@ -203,10 +176,10 @@ command-keeps d l =
     pal-set : (s : Snes) (g : Game) → GoodSnes s → GoodGame g → GoodGame (fixedly (command.palSet d) s g)
     pal-set s g hs h =
         unmasked-good _ (getD d 9 0)
-        (map-good _ _ (palettes-good g _ h (length-pal-set d (s .system) (hs .system))) (pal-long (getD d 9 0) (s .files) (g .map) (hs .files) (h .map)))
+        (map-good _ _ (palettes-good g _ h (length-pal-set d (s .system) (hs .system))) (length-pal-set-map (s .files) (g .map) (hs .files) (h .map) (getD d 9 0)))
 
     attr-set : (s : Snes) (g : Game) → GoodSnes s → GoodGame g → GoodGame (fixedly (command.attrSet d) s g)
-    attr-set s g hs h = unmasked-good _ (getD d 1 0) (map-good g _ h (set-long (getD d 1 0) (s .files) (g .map) (hs .files) (h .map)))
+    attr-set s g hs h = unmasked-good _ (getD d 1 0) (map-good g _ h (length-attr-set (s .files) (g .map) (hs .files) (h .map) (getD d 1 0)))
 
 -- saying nothing keeps everything
 pub nothing-keeps : Keeps (command.plain command.nothing)

@@ -15,7 +15,7 @@ use Rattle.receiver.specs.Lines.{p15High, bothHigh, pulseOf, indexed}
 use Rattle.receiver.specs.Receive.{Rx, Step, words, rxOf, stepOf, written}
 use Rattle.receiver.specs.Store.{filed, packetsOf}
 use Rattle.receiver.specs.Port.{Port, stepAt}
-use Rattle.receiver.proofs.General.{either}
+use Rattle.bits.proofs.Tests.{either}
 use Rattle.receiver.proofs.Sound.{good-written, length-filed}
 use Rattle.run.specs.Run.{Ended, lined, onward, runs, Ready}
 

@@ -1,5 +1,4 @@
 -- A part that is copied over from its front to its end holds what was copied, and nothing of what it held: so a landing leaves what the page has.
--- Assumes nothing.
 use mathlib.Core.Path.{_≡_, sym, ap, ap₂, _∙_}
 use mathlib.Core.List.{List, _++_, append-nil}
 use Prim.Native.Nat.{ℕ, _+_, _/_, _%_, _≤_}
@@ -7,20 +6,10 @@ use native.Mathlib.Omega.{arith}
 use lib.ListN.{length, take, drop, drop-of-length-le, length-take, length-drop}
 use lib.Seq.{take-at, drop-at}
 use Rattle.bits.specs.Over.{over}
+use Rattle.bits.proofs.Overs.{over-all, over-rest}
 use Rattle.bits.proofs.Tabs.{length-tab}
 use Rattle.transfer.specs.Page.{planeByte, pageOf}
 use Rattle.transfer.specs.Landing.{filesLanded, mapLanded}
-
--- all of it
-pub over-all : (n : ℕ) (ys b : List ℕ) → length b ≡ n → over 0 n ys b ≡ ys
-over-all n ys b h = let ge : length b ≤ n = omega arith in ap (λ (x : List ℕ). ys ++ x) (drop-of-length-le b ge) ∙ append-nil ys
-
--- the rest of it
-pub over-rest : (n m : ℕ) (xs ys b : List ℕ) → length xs ≡ n → length b ≡ n + m → over n m ys (over 0 n xs b) ≡ xs ++ ys
-over-rest n m xs ys b h k =
-    let ge : length (drop n b) ≤ m = simp length-drop (omega arith) in
-    rw (take-at xs (drop n b) n h, drop-at xs (drop n b) n h)
-    (ap (λ (z : List ℕ). xs ++ (ys ++ z)) (drop-of-length-le (drop n b) ge) ∙ ap (λ (z : List ℕ). xs ++ z) (append-nil ys))
 
 pub page-long : (s : List ℕ) → length (pageOf s) ≡ 4096
 unfolding pageOf

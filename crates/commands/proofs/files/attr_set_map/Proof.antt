@@ -9,7 +9,7 @@ use lib.Bits.{and-mask}
 use Rattle.bits.specs.Over.{part, over}
 use Rattle.bits.proofs.Overs.{length-part}
 use Rattle.commands.specs.Files.{fileCount, fileOf, attrSetMap}
-use Rattle.commands.proofs.General.{over-all}
+use Rattle.bits.proofs.Overs.{over-all}
 use Rattle.commands.proofs.files.attr_set_map.Statement.{statement}
 use Rattle.commands.proofs.files.attr_set_map.Tie as tie
 
