@@ -3,20 +3,17 @@
 use Prim.Native.Nat.{ℕ, _+_, _-_, _*_, _/_, _%_, _<_, _≤_}
 use native.Mathlib.Omega.{arith}
 use mathlib.Core.Path.{_≡_, refl, sym, _∙_, ap}
-use mathlib.Core.Bool.{Bool, true, false, cond, _&&_, false≢true}
+use mathlib.Core.Bool.{Bool, true, false, cond, _&&_}
 use mathlib.Core.List.{List}
 use mathlib.Core.Option.{none, some}
 use lib.Dec.{leb}
 use lib.ListN.{length, getD, length-take, length-drop}
 use borrow.Author.Tests.{le-leb, lt-leb, eq-eqb, ne-eqb, leb-true}
 use Rattle.bits.proofs.Planes.{bit-lt}
+use Rattle.bits.proofs.Tests.{and-left, and-right}
 use Rattle.colour.specs.Entry.{tileOf, paletteOf, flipX, flipY}
 use Rattle.border.specs.Tile.{tilePart, indexIn}
 use Rattle.border.specs.Border.{entryAt, draws, flipped, indexOf, inPalette, opaque, borderAt}
-
-both : (a b : Bool) → a && b ≡ true → (a ≡ true) × (b ≡ true)
-both true b e = (refl, e)
-both false b e = absurd (false≢true e)
 
 and-false : (b : Bool) → b && false ≡ false
 and-false true = refl
@@ -41,13 +38,13 @@ last-test w n p e f h k =
 -- what a word that draws names
 pub drawn-tile : (w : ℕ) → draws w ≡ true → tileOf w ≤ 255
 unfolding draws
-drawn-tile w d = leb-true (tileOf w) 255 (both (leb (tileOf w) 255) (leb 4 (paletteOf w) && leb (paletteOf w) 6) d .0)
+drawn-tile w d = leb-true (tileOf w) 255 (and-left _ _ d)
 
 pub drawn-palette : (w : ℕ) → draws w ≡ true → (4 ≤ paletteOf w) × (paletteOf w ≤ 6)
 unfolding draws
 drawn-palette w d =
-    let q = both (leb 4 (paletteOf w)) (leb (paletteOf w) 6) (both (leb (tileOf w) 255) (leb 4 (paletteOf w) && leb (paletteOf w) 6) d .1) in
-    (leb-true 4 (paletteOf w) (q .0), leb-true (paletteOf w) 6 (q .1))
+    let q = and-right (leb (tileOf w) 255) (leb 4 (paletteOf w) && leb (paletteOf w) 6) d in
+    (leb-true 4 (paletteOf w) (and-left _ _ q), leb-true (paletteOf w) 6 (and-right (leb 4 (paletteOf w)) _ q))
 
 pub tile-long : (tiles : List ℕ) (n : ℕ) → length tiles ≡ 8192 → n ≤ 255 → length (tilePart tiles n) ≡ 32
 unfolding tilePart

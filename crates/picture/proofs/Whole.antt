@@ -3,7 +3,7 @@
 use Prim.Native.Nat.{ℕ, zero, suc, _+_, _-_, _*_, _/_, _%_, _<_, _≤_}
 use native.Mathlib.Omega.{arith}
 use mathlib.Core.Path.{_≡_, refl, sym, _∙_, ap, ap₂}
-use mathlib.Core.Bool.{Bool, true, false, cond, _&&_, false≢true}
+use mathlib.Core.Bool.{Bool, true, false, cond, _&&_}
 use mathlib.Core.List.{List, _++_}
 use mathlib.Core.Option.{Option, none, some, Option·getD}
 use lib.Dec.{ltb, leb, eqb}
@@ -14,6 +14,7 @@ use Rattle.bits.specs.Tab.{tab}
 use Rattle.bits.specs.Paint.{Painted}
 use Rattle.bits.proofs.Tabs.{getD-tab, length-tab}
 use Rattle.bits.proofs.Pairs.{pair-lt}
+use Rattle.bits.proofs.Tests.{and-left}
 use Rattle.bits.proofs.Painting.{painted-same, painted-tab, painted-run, painted-count}
 use Rattle.colour.specs.Entry.{tileOf, paletteOf, flipX, flipY}
 use Rattle.screen.specs.Packed.{pairAt, cellAt}
@@ -25,10 +26,6 @@ use Rattle.lanes.specs.Lanes.{spreadOf}
 use Rattle.runs.specs.Runs.{Tables, baseOf, within, screenFrom, runPixel, pixelIn}
 use Rattle.picture.specs.Picture.{Parts, onScreen, below, pixelAt, rowOf, pictureOf}
 use Rattle.picture.specs.Tables.{borderColor, gameColor, pixelOn}
-
-both : (a b : Bool) → a && b ≡ true → (a ≡ true) × (b ≡ true)
-both true b e = (refl, e)
-both false b e = absurd (false≢true e)
 
 -- the border's table
 module _ (l b : List ℕ) (back : ℕ) (e : l ≡ tab 48 (borderColor b back)) where
@@ -114,8 +111,7 @@ module _ (p : Parts) (border game : List ℕ)
       → seen x y ≡ screenPixel (p .palettes) (p .preset) (p .inForce) (p .attributes) (p .screen) (p .mode) (x - 48) (y - 40)
   unfolding screenPixel seen
   screen-is x y t =
-      let q = both (leb 48 x && ltb x 208) (leb 40 y && ltb y 184) t in
-      let hx : 48 ≤ x = leb-true 48 x (both (leb 48 x) (ltb x 208) (q .0) .0) in
+      let hx : 48 ≤ x = leb-true 48 x (and-left _ (ltb x 208) (and-left (leb 48 x && ltb x 208) (leb 40 y && ltb y 184) t)) in
       let ec : x / 8 - 6 ≡ (x - 48) / 8 = omega arith in
       let es : screenFrom (x / 8) y + x % 8 ≡ (y - 40) * 160 + (x - 48) = omega arith in
       looked (cellAt (p .attributes) (x / 8 - 6) ((y - 40) / 8)) (pairAt (p .screen) (screenFrom (x / 8) y + x % 8)) (small _ _) (small _ _)

@@ -4,27 +4,23 @@ use Prim.Native.Nat.{ℕ, zero, suc, _-_, _*_, _<_, _≤_}
 use native.Mathlib.Nat.{not-suc-le-zero, le-of-suc-le-suc}
 use native.Mathlib.Omega.{arith}
 use mathlib.Core.Path.{_≡_, refl, sym, _∙_, ap}
-use mathlib.Core.Bool.{Bool, true, false, cond, _&&_, false≢true}
+use mathlib.Core.Bool.{Bool, true, false, cond, _&&_}
 use mathlib.Core.List.{List}
 use lib.Dec.{ltb, leb}
 use lib.ListN.{getD}
 use borrow.Author.Tests.{leb-true, ltb-true}
+use Rattle.bits.proofs.Tests.{and-left, and-right}
 use Rattle.colour.specs.Entry.{paletteOf}
 use Rattle.border.specs.Border.{draws}
 use Rattle.border.proofs.Entries.{drawn-palette}
 use Rattle.runs.specs.Runs.{baseOf, within}
 
-both : (a b : Bool) → a && b ≡ true → (a ≡ true) × (b ≡ true)
-both true b e = (refl, e)
-both false b e = absurd (false≢true e)
-
 pub is-within : (c y : ℕ) → within c y ≡ true → (6 ≤ c) × (c < 26) × (40 ≤ y) × (y < 184)
 unfolding within
 is-within c y e =
-    let p = both (leb 6 c && ltb c 26) (leb 40 y && ltb y 184) e in
-    let q = both (leb 6 c) (ltb c 26) (p .0) in
-    let r = both (leb 40 y) (ltb y 184) (p .1) in
-    (leb-true 6 c (q .0), ltb-true c 26 (q .1), leb-true 40 y (r .0), ltb-true y 184 (r .1))
+    let x = and-left (leb 6 c && ltb c 26) (leb 40 y && ltb y 184) e in
+    let z = and-right (leb 6 c && ltb c 26) (leb 40 y && ltb y 184) e in
+    (leb-true 6 c (and-left _ _ x), ltb-true c 26 (and-right (leb 6 c) _ x), leb-true 40 y (and-left _ _ z), ltb-true y 184 (and-right (leb 40 y) _ z))
 
 -- a word that draws
 pub base-drawn : (w p : ℕ) → p ≡ paletteOf w → draws w ≡ true → ((p - 4) * 16 ≡ baseOf w) × ((p - 4) * 16 ≤ 32)

@@ -1,3 +1,4 @@
 pub mod Pendings
 pub mod Pages
 pub mod Parts
+pub mod Vectors

@@ -38,7 +38,7 @@ loop-again : tie.Need-loop-again Inv-loop μ-loop
 loop-again c =
     let l = c .before .before .before .before .before .loop in
     let a = c .before .before .before .before .before .before .before .before .before .before .before .before .before .before .args in
-    let p = row-turn (a .tiles .now) (a .map .now) (a .attributes .now) (a .screen .now) (a .border .now) (a .game .now) (a .y) _ _ _ _ _ _ refl (l .inv .2) (c .before .before .run .ensures) in
+    let p = row-turn (a .tiles .now) (a .map .now) (a .attributes .now) (a .screen .now) (a .border .now) (a .game .now) (a .y) _ _ _ (l .c) (a .at) _ refl (l .inv .2) (c .before .before .run .ensures) in
     (omega arith, painted-length p, p)
 
 same-length : tie.Need-same-length Inv-loop μ-loop
