@@ -1,0 +1,63 @@
+-- Many data pulses at once: what the fast run claims of the plain one (`run`'s definition `runs`), and nothing of its own.
+-- Pan Docs, Command packet transfers: a data pulse is one line low, and after it both go high.
+use Prim.Native.Nat.{ℕ, zero, suc, _+_, _*_, _^_, _<_, _≤_}
+use mathlib.Core.Path.{_≡_}
+use mathlib.Core.Bool.{Bool, true}
+use mathlib.Core.List.{List}
+use lib.Bits.{bitAnd}
+use lib.ListN.{length, getD, drop}
+use Rattle.receiver.specs.declared.Stage.the-variants.{Receiving}
+use Rattle.receiver.specs.declared.Receiver.{Receiver}
+use Rattle.receiver.specs.Receive.{rxOf, Sound}
+use Rattle.receiver.specs.Port.{Port}
+use Rattle.run.specs.Run.{runs}
+use Rattle.fast.specs.declared.gather.Gathered.{Gathered}
+use Rattle.fast.specs.declared.Fed.{Fed}
+
+-- eight bytes from a place as a number, the first one lowest
+unfoldable pub eightAt : List ℕ → ℕ → ℕ
+eightAt w i =
+    getD w i 0 + getD w (i + 1) 0 * 256 + getD w (i + 2) 0 * 65536 + getD w (i + 3) 0 * 16777216 + getD w (i + 4) 0 * 4294967296
+    + getD w (i + 5) 0 * 1099511627776 + getD w (i + 6) 0 * 281474976710656 + getD w (i + 7) 0 * 72057594037927936
+
+-- the joypad index after P15 rose n times
+unfoldable pub rises : ℕ → ℕ → ℕ → ℕ
+rises zero x mask = x
+rises (suc n) x mask = bitAnd (rises n x mask + 1) mask
+
+-- a packet is coming in, and both lines are high
+abbrev pub live : ℕ → ℕ → ℕ → ℕ → List ℕ → Port
+live e r b p s =
+    record {
+      p15 = true;
+      both = true;
+      rx = record { stage = Receiving; expected = e; received = r; bits = b; packet = p };
+      store = s;
+    }
+
+-- the writes ws begin with n data pulses, each with its release, of the value v with o ones, and go on as rest:
+-- for whatever run meets them
+unfoldable pub Feeds : List ℕ → List ℕ → ℕ → ℕ → ℕ → Type 0
+Feeds ws rest n v o =
+    (mask i x e r b p : ℕ) (s : List ℕ) → b + n ≤ 128
+    → runs mask i x (live e r b p s) ws ≡ runs mask (i + 2 * n) (rises o x mask) (live e r (b + n) (p + v * 2 ^ b) s) rest
+
+-- the pulses that `gather` took, from a place
+pub record Gave (ws : List ℕ) (from : ℕ) (g : Gathered) : Type 0 where
+  pub place : g .at ≡ from + 2 * g .count
+  pub within : g .at ≤ length ws
+  pub few : g .count ≤ 64
+  pub small : g .word < 2 ^ g .count
+  pub feeds : Feeds (drop from ws) (drop (g .at) ws) (g .count) (g .word) (g .ones)
+
+abbrev pub portWith : Receiver → Bool → Bool → List ℕ → Port
+portWith r p15 both s = record { p15 = p15; both = both; rx = rxOf r; store = s }
+
+-- a run from one place is the run from a later one
+pub record Passed (mask from : ℕ) (rx : Receiver) (p15 both : Bool) (index : ℕ) (ws : List ℕ) (f : Fed) : Type 0 where
+  pub onto : from ≤ f .at
+  pub within : f .at ≤ length ws
+  pub kept : f .rx .stage ≡ rx .stage
+  pub sound : Sound (rxOf (f .rx))
+  pub few : f .index < 255
+  pub same : (s : List ℕ) → runs mask from index (portWith rx p15 both s) (drop from ws) ≡ runs mask (f .at) (f .index) (portWith (f .rx) p15 both s) (drop (f .at) ws)

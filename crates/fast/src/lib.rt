@@ -1,0 +1,186 @@
+// `run::run` with the same contract, word for word, and whole words of data pulses at once. Next door: the words (`gather`).
+// Measured beside the Rust on packets: a sixth of the plain run's time. The plain run stays as the definition in code.
+ghost use mathlib.Core.Path.{_≡_};
+ghost use mathlib.Core.Bool.{true};
+ghost use Prim.Native.Nat.{_<_, _≤_};
+ghost use lib.ListN.{length};
+ghost use Rattle.receiver.specs.Receive.{rxOf, Sound};
+ghost use Rattle.receiver.specs.declared.Stage.the-variants.{Receiving};
+ghost use Rattle.run.specs.Run.{runs, portOf, endedOf, Ready};
+ghost use Rattle.fast.specs.Fast.{rises, Passed};
+use gather::gather;
+use receiver::Receiver;
+use receiver::Stage;
+use receiver::lines::both_high;
+use receiver::lines::index_after;
+use receiver::lines::p15_high;
+use receiver::store::file;
+use run::Lines;
+use run::Ran;
+
+pub mod gather;
+
+// A receiver further on, with the joypad index and the place.
+pub struct Fed {
+    pub rx: Receiver,
+    pub index: u8,
+    pub at: usize,
+}
+
+// Runs the writes until a command completes or they end.
+pub fn run_fast(start: Receiver, lines: Lines, mask: u8, writes: &[u8], store: &mut [u8]) -> Ran
+    requires { ⌜ Ready (portOf start lines (now store)) (lines .index) mask ⌝ }
+    ensures { λ r. ⌜ endedOf r (now (store .exit)) ≡ runs mask 0 (lines .index) (portOf start lines (now (store .entry))) (now (writes .entry)) ⌝ }
+{
+    let mut rx = start;
+    let mut p15 = lines.p15;
+    let mut both = lines.both;
+    let mut index = lines.index;
+    let mut i: usize = 0;
+    while i < writes.len() {
+        let here = Lines {
+            p15: p15,
+            both: both,
+            index: index,
+        };
+        let f = skip(rx, here, mask, writes, i);
+        let now = f.rx;
+        let at = f.at;
+        if at >= writes.len() {
+            return Ran {
+                rx: now,
+                lines: Lines {
+                    p15: p15,
+                    both: both,
+                    index: f.index,
+                },
+                at: at,
+                packets: 0,
+            };
+        }
+        let v = writes[at];
+        index = index_after(f.index, mask, p15, v);
+        let w = now.write(v, both);
+        let n = file(w, now.lo, now.hi, store);
+        rx = w.next;
+        p15 = p15_high(v);
+        both = both_high(v);
+        i = at + 1;
+        if n != 0 {
+            return Ran {
+                rx: rx,
+                lines: Lines {
+                    p15: p15,
+                    both: both,
+                    index: index,
+                },
+                at: i,
+                packets: n,
+            };
+        }
+    }
+    Ran {
+        rx: rx,
+        lines: Lines {
+            p15: p15,
+            both: both,
+            index: index,
+        },
+        at: i,
+        packets: 0,
+    }
+}
+
+// The whole of a packet's data pulses, as far as they are well formed, where the stage and the lines allow it.
+fn skip(rx: Receiver, lines: Lines, mask: u8, writes: &[u8], from: usize) -> Fed
+    requires { ⌜ Sound (rxOf rx) × (((lines .index < 255) × (mask < 255)) × (from ≤ length (now writes))) ⌝ }
+    ensures { λ r. ⌜ Passed mask from rx (lines .p15) (lines .both) (lines .index) (now (writes .entry)) r ⌝ }
+{
+    if lines.both {
+        if lines.p15 {
+            let stage = rx.stage;
+            match stage {
+                Stage::Idle => {}
+                Stage::Awaiting => {}
+                Stage::Receiving => {
+                    let f = feed(rx, lines.index, mask, writes, from);
+                    let half = f.rx;
+                    return feed(half, f.index, mask, writes, f.at);
+                }
+            }
+        }
+    }
+    Fed {
+        rx: rx,
+        index: lines.index,
+        at: from,
+    }
+}
+
+// While a packet is coming in and both lines are high: a word of data pulses at once, where a word begins.
+fn feed(rx: Receiver, index: u8, mask: u8, writes: &[u8], from: usize) -> Fed
+    requires { ⌜ ((rx .stage ≡ Receiving) × Sound (rxOf rx)) × (((index < 255) × (mask < 255)) × (from ≤ length (now writes))) ⌝ }
+    ensures { λ r. ⌜ Passed mask from rx true true index (now (writes .entry)) r ⌝ }
+{
+    if rx.bits == 0 {
+        let g = gather(writes, from);
+        return Fed {
+            rx: Receiver {
+                stage: Stage::Receiving,
+                expected: rx.expected,
+                received: rx.received,
+                bits: g.count,
+                lo: g.word,
+                hi: 0,
+            },
+            index: index_rises(index, mask, g.ones),
+            at: g.at,
+        };
+    }
+    if rx.bits == 64 {
+        let g = gather(writes, from);
+        return Fed {
+            rx: Receiver {
+                stage: Stage::Receiving,
+                expected: rx.expected,
+                received: rx.received,
+                bits: 64 + g.count,
+                lo: rx.lo,
+                hi: g.word,
+            },
+            index: index_rises(index, mask, g.ones),
+            at: g.at,
+        };
+    }
+    Fed {
+        rx: rx,
+        index: index,
+        at: from,
+    }
+}
+
+// The joypad index after P15 rose n times. The masks that MLT_REQ sets, but 2, are low bits: then the index counts.
+fn index_rises(index: u8, mask: u8, n: u8) -> u8
+    requires { ⌜ (index < 255) × (mask < 255) ⌝ }
+    ensures { λ r. ⌜ r ≡ rises n index mask ⌝ }
+{
+    if n == 0 {
+        return index;
+    }
+    if mask == 0 {
+        return 0;
+    }
+    if mask == 1 {
+        return (index & 1) + (n & 1) & 1;
+    }
+    if mask == 3 {
+        return (index & 3) + (n & 3) & 3;
+    }
+    let mut x = index;
+    let mut k: u8 = 0;
+    while k < n {
+        x = (x + 1) & mask;
+        k += 1;
+    }
+    x
+}
