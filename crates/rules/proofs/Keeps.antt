@@ -3,11 +3,12 @@ use mathlib.Core.Path.{_≡_, refl, ap, _∙_}
 use mathlib.Core.Bool.{Bool, true, false, cond, _&&_}
 use mathlib.Core.List.{List, _++_}
 use mathlib.Core.Option.{Option, none, some}
-use Prim.Native.Nat.{ℕ, _+_, _-_, _*_, _<_, _≤_}
+use Prim.Native.Nat.{ℕ, _+_, _-_, _*_, _/_, _<_, _≤_}
 use native.Mathlib.Omega.{arith}
 use borrow.Author.Tests.{leb-false}
 use lib.Dec.{lit≤, leb}
 use lib.ListN.{length, take, drop, length-append, length-take, length-drop}
+use lib.Seq.{length-take-le}
 use Rattle.bits.proofs.Overs.{length-over, length-part}
 use Rattle.receiver.specs.Lines.{p14High, p15High, bothHigh, pulseOf}
 use Rattle.receiver.specs.Port.{Port, stepAt, filedAt, answered, wrote}
@@ -54,14 +55,20 @@ port-kept p v h = record {
   store = wrote-length p v (h .store) (v3-sound (p .rx) (p .store) (h .receiver));
 }
 
--- a command that is complete has 16 to 112 bytes
+-- a command that is complete has 16 to 112 bytes, packet by packet
 pub record Whole (d : List ℕ) : Type 0 where
   pub least : 16 ≤ length d
   pub most : length d ≤ 112
+  pub packets : length d ≡ 16 * (length d / 16)
 
 abbrev pub WholeIf : Option (List ℕ) → Type 0
 WholeIf none = Unit {0}
 WholeIf (some d) = Whole d
+
+front-whole : (n : ℕ) (s : List ℕ) → (0 < n) × (n < 8) → length s ≡ 112 → Whole (take (16 * n) s)
+front-whole n s f l =
+    let e : length (take (16 * n) s) ≡ 16 * n = length-take-le (16 * n) s (omega arith) in
+    record { least = omega arith; most = omega arith; packets = omega arith }
 
 pub answered-whole : (p : Port) (v : ℕ) → GoodPort p → WholeIf (answered p v)
 unfolding answered
@@ -73,7 +80,7 @@ answered-whole p v h =
     go : (d : Done) (s : List ℕ) → Fits d → length s ≡ 112 → WholeIf (answerOf d s)
     go Nothing s f l = unfold answerOf in tt
     go (Packet n) s f l = unfold answerOf in tt
-    go (Command n) s f l = unfold answerOf in record { least = simp length-take (omega arith); most = simp length-take (omega arith) }
+    go (Command n) s f l = unfold answerOf in front-whole n s f l
 
 pub carries-keeps : (p : Port) (v : ℕ) → GoodPort p → Keeps (carries p v)
 unfolding carries meant
