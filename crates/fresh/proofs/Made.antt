@@ -1,7 +1,7 @@
 -- A block of zeros is its parts, each of zeros; the palettes take their places in it as parts, and the flags as bytes of the header.
-use mathlib.Core.Path.{_≡_, refl, sym, ap, _∙_}
 use mathlib.Core.Bool.{false}
 use mathlib.Core.List.{List, [], _∷_, _++_, map, append-assoc, append-nil}
+use mathlib.Core.Path.{_≡_, refl, sym, ap, _∙_}
 use Prim.Native.Nat.{ℕ, zero, suc, _+_, _*_}
 use native.Mathlib.Numerals.{add-one}
 use native.Mathlib.Omega.{arith}
@@ -11,13 +11,13 @@ use lib.Seq.{drop-drop, take-at, drop-at}
 use Rattle.bits.specs.Over.{over}
 use Rattle.receiver.specs.Receive.{idle, stageNumber}
 use Rattle.receiver.specs.Store.{bytesOf}
-use Rattle.layout.specs.Layout.{sizes}
-use Rattle.layout.specs.Block.{flat, parts, isHeld, heldBytes, save}
-use Rattle.layout.specs.Fresh.{wordBytes, times, fresh, new, postBoot}
 use Rattle.layout.proofs.Cut.{sum}
 use Rattle.layout.proofs.Freshes.{fresh-good}
 use Rattle.layout.proofs.Goods.{length-save}
 use Rattle.layout.proofs.Made.{Made, made-put, made-set, made-save}
+use Rattle.layout.specs.Block.{flat, parts, isHeld, heldBytes, save}
+use Rattle.layout.specs.Fresh.{wordBytes, times, fresh, new, postBoot}
+use Rattle.layout.specs.Layout.{sizes}
 use Rattle.transfer.specs.Pending.{countdownOf, kindOf}
 
 abbrev zero-parts : List ℕ → List (List ℕ)

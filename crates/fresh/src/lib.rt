@@ -3,10 +3,11 @@
 ghost use mathlib.Core.Path.{_≡_};
 ghost use mathlib.Core.List.{[], _∷_};
 ghost use Prim.Native.Nat.{_+_, _≤_};
-ghost use lib.ListN.{length, replicate};
+ghost use lib.ListN.{length};
 ghost use Rattle.bits.specs.Over.{over};
 ghost use Rattle.layout.specs.Layout.{blockBytes, systemBytes};
 ghost use Rattle.layout.specs.Fresh as spec;
+use bits::clear;
 use bits::high_byte;
 use bits::low_byte;
 
@@ -27,17 +28,6 @@ pub fn post_boot(block: &mut [u8])
     new(block);
     block[layout::P15] = 1;
     block[layout::BOTH] = 1;
-}
-
-// Every byte becomes zero.
-pub fn clear(bytes: &mut [u8])
-    ensures { λ _. ⌜ now (bytes .exit) ≡ replicate (length (now (bytes .entry))) 0 ⌝ }
-{
-    let mut i: usize = 0;
-    while i < bytes.len() {
-        bytes[i] = 0;
-        i += 1;
-    }
 }
 
 // The 512 system palettes, all alike.

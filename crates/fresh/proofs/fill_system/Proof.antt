@@ -1,13 +1,11 @@
 -- After i turns there are i palettes, and past them what was there.
 use borrow.Author.Needs.{needs}
 use mathlib.Core.List.{List, [], _∷_, _++_, append-nil}
-use mathlib.Core.Path.{_≡_, _∙_, ap, refl}
-use mathlib.Core.Path.{sym}
+use mathlib.Core.Path.{_≡_, _∙_, ap, refl, sym}
 use Prim.Native.Nat.{ℕ, _≤_, _-_, _*_}
 use native.Mathlib.Omega.{arith}
 use denote.Ref.{now}
-use lib.ListN.{drop-of-length-le}
-use lib.ListN.{length, drop}
+use lib.ListN.{drop-of-length-le, length, drop}
 use Rattle.bits.proofs.Overs.{length-over}
 use Rattle.bits.specs.Over.{over}
 use Rattle.layout.specs.Fresh.{times, wordBytes}
