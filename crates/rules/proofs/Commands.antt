@@ -31,7 +31,7 @@ use Rattle.rules.proofs.Pads.{pads-good, mlt-few, mlt-within}
 
 -- ---- one place of the game's part
 
-palettes-good : (g : Game) (p : List ℕ) → GoodGame g → length p ≡ 32 → GoodGame (withPalettes p g)
+pub palettes-good : (g : Game) (p : List ℕ) → GoodGame g → length p ≡ 32 → GoodGame (withPalettes p g)
 unfolding withPalettes
 palettes-good g p h e = record {
   mask = h .mask;
@@ -44,7 +44,7 @@ palettes-good g p h e = record {
   frozen = h .frozen;
 }
 
-map-good : (g : Game) (m : List ℕ) → GoodGame g → length m ≡ 90 → GoodGame (withMap m g)
+pub map-good : (g : Game) (m : List ℕ) → GoodGame g → length m ≡ 90 → GoodGame (withMap m g)
 unfolding withMap
 map-good g m h e = record {
   mask = h .mask;
@@ -57,7 +57,7 @@ map-good g m h e = record {
   frozen = h .frozen;
 }
 
-mask-good : (g : Game) (m : ℕ) (f : Option (List ℕ)) → GoodGame g → m ≤ 3 → maskAllows m (isHeld f) ≡ true → SizedIf 5760 f → GoodGame (withMask m f g)
+pub mask-good : (g : Game) (m : ℕ) (f : Option (List ℕ)) → GoodGame g → m ≤ 3 → maskAllows m (isHeld f) ≡ true → SizedIf 5760 f → GoodGame (withMask m f g)
 unfolding withMask
 mask-good g m f h few e k = record {
   mask = few;
@@ -71,7 +71,7 @@ mask-good g m f h few e k = record {
 }
 
 -- a mask that is cancelled allows what there is; one that is not stays
-unmasked-good : (g : Game) (flags : ℕ) → GoodGame g → GoodGame (withoutMask flags g)
+pub unmasked-good : (g : Game) (flags : ℕ) → GoodGame g → GoodGame (withoutMask flags g)
 unfolding withoutMask cancelled
 unmasked-good g flags h = go (bitOf 6 flags)
   where
@@ -89,11 +89,11 @@ file-long n files m h e = go (ltb n 45) refl
     go true q = let lt : n < 45 = ltb-true n 45 q in length-part (90 * n) 90 files (omega arith)
     go false q = e
 
-set-long : (flags : ℕ) (files m : List ℕ) → length files ≡ 4050 → length m ≡ 90 → length (attrSetMap flags files m) ≡ 90
+pub set-long : (flags : ℕ) (files m : List ℕ) → length files ≡ 4050 → length m ≡ 90 → length (attrSetMap flags files m) ≡ 90
 unfolding attrSetMap
 set-long flags files m h e = file-long (flags % 64) files m h e
 
-pal-long : (flags : ℕ) (files m : List ℕ) → length files ≡ 4050 → length m ≡ 90 → length (palSetMap flags files m) ≡ 90
+pub pal-long : (flags : ℕ) (files m : List ℕ) → length files ≡ 4050 → length m ≡ 90 → length (palSetMap flags files m) ≡ 90
 unfolding palSetMap
 pal-long flags files m h e = go (bitOf 7 flags)
   where

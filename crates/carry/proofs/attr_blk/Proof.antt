@@ -1,12 +1,11 @@
 -- `carry::attr_blk` meets its contract: the map that comes back is the one part that changes.
 use mathlib.Core.Path.{refl}
-use native.Mathlib.Omega.{arith}
 use borrow.Author.Needs.{needs}
 use Rattle.attribute_map.proofs.Packing.{length-pack}
 use Rattle.commands.specs.Command.{attrBlk}
 use Rattle.commands.specs.Maps as maps
 use Rattle.rules.specs.Carry.{plainly}
-use Rattle.carry.proofs.Steps.{long, map-changed}
+use Rattle.carry.proofs.Steps.{map-changed}
 use Rattle.carry.proofs.attr_blk.Statement.{statement}
 use Rattle.carry.proofs.attr_blk.Tie as tie
 
@@ -17,7 +16,7 @@ part-attr-blk-start : tie.Need-part-attr-blk-start
 part-attr-blk-start c = search needs
 
 part-attr-blk-end : tie.Need-part-attr-blk-end
-part-attr-blk-end c = omega (arith, long _ (c .before .before .pre .0))
+part-attr-blk-end c = search needs
 
 attr-blk-requires : tie.Need-attr-blk-requires
 attr-blk-requires c κs = search needs

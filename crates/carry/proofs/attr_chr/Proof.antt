@@ -1,12 +1,11 @@
 -- `carry::attr_chr` meets its contract: the map that comes back is the one part that changes.
 use mathlib.Core.Path.{refl}
-use native.Mathlib.Omega.{arith}
 use borrow.Author.Needs.{needs}
 use Rattle.attribute_map.proofs.Packing.{length-pack}
 use Rattle.commands.specs.Command.{attrChr}
 use Rattle.commands.specs.Maps as maps
 use Rattle.rules.specs.Carry.{plainly}
-use Rattle.carry.proofs.Steps.{long, map-changed}
+use Rattle.carry.proofs.Steps.{map-changed}
 use Rattle.carry.proofs.attr_chr.Statement.{statement}
 use Rattle.carry.proofs.attr_chr.Tie as tie
 
@@ -17,7 +16,7 @@ part-attr-chr-start : tie.Need-part-attr-chr-start
 part-attr-chr-start c = search needs
 
 part-attr-chr-end : tie.Need-part-attr-chr-end
-part-attr-chr-end c = omega (arith, long _ (c .before .before .pre .0))
+part-attr-chr-end c = search needs
 
 attr-chr-requires : tie.Need-attr-chr-requires
 attr-chr-requires c κs = search needs

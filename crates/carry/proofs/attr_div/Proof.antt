@@ -1,12 +1,11 @@
 -- `carry::attr_div` meets its contract: the map that comes back is the one part that changes.
 use mathlib.Core.Path.{refl}
-use native.Mathlib.Omega.{arith}
 use borrow.Author.Needs.{needs}
 use Rattle.attribute_map.proofs.Packing.{length-pack}
 use Rattle.commands.specs.Command.{attrDiv}
 use Rattle.commands.specs.Maps as maps
 use Rattle.rules.specs.Carry.{plainly}
-use Rattle.carry.proofs.Steps.{long, map-changed}
+use Rattle.carry.proofs.Steps.{map-changed}
 use Rattle.carry.proofs.attr_div.Statement.{statement}
 use Rattle.carry.proofs.attr_div.Tie as tie
 
@@ -17,7 +16,7 @@ part-attr-div-start : tie.Need-part-attr-div-start
 part-attr-div-start c = search needs
 
 part-attr-div-end : tie.Need-part-attr-div-end
-part-attr-div-end c = omega (arith, long _ (c .before .before .pre .0))
+part-attr-div-end c = search needs
 
 attr-div-requires : tie.Need-attr-div-requires
 attr-div-requires c κs = search needs

@@ -1,12 +1,11 @@
 -- `carry::attr_lin` meets its contract: the map that comes back is the one part that changes.
 use mathlib.Core.Path.{refl}
-use native.Mathlib.Omega.{arith}
 use borrow.Author.Needs.{needs}
 use Rattle.attribute_map.proofs.Packing.{length-pack}
 use Rattle.commands.specs.Command.{attrLin}
 use Rattle.commands.specs.Maps as maps
 use Rattle.rules.specs.Carry.{plainly}
-use Rattle.carry.proofs.Steps.{long, map-changed}
+use Rattle.carry.proofs.Steps.{map-changed}
 use Rattle.carry.proofs.attr_lin.Statement.{statement}
 use Rattle.carry.proofs.attr_lin.Tie as tie
 
@@ -17,7 +16,7 @@ part-attr-lin-start : tie.Need-part-attr-lin-start
 part-attr-lin-start c = search needs
 
 part-attr-lin-end : tie.Need-part-attr-lin-end
-part-attr-lin-end c = omega (arith, long _ (c .before .before .pre .0))
+part-attr-lin-end c = search needs
 
 attr-lin-requires : tie.Need-attr-lin-requires
 attr-lin-requires c κs = search needs
