@@ -1,24 +1,24 @@
 -- What each worker leaves, told by parts (`Made`), is the block of the unit after its command: the parts of the one are the parts of the other.
-use mathlib.Core.Path.{_≡_, refl, sym, ap, _∙_}
+use mathlib.Core.Path.{_≡_, sym, ap, _∙_}
 use mathlib.Core.Bool.{true}
-use mathlib.Core.List.{List, [], _∷_}
-use mathlib.Core.Option.{Option, none, some}
-use Prim.Native.Nat.{ℕ, _<_, _≤_}
+use mathlib.Core.List.{List, _∷_}
+use mathlib.Core.Option.{Option}
+use Prim.Native.Nat.{ℕ}
 use lib.Dec.{lit<}
 use lib.ListN.{length, replicate, drop, set, length-replicate}
 use Rattle.bits.specs.Over.{part, over}
-use Rattle.commands.specs.Command.{Plain, Fixed, plain, fixed}
+use Rattle.commands.specs.Command.{Plain, plain}
 use Rattle.transfer.specs.Pending.{countdownOf, kindOf}
 use Rattle.transfer.specs.declared.pending.Pending.{Pending}
 use Rattle.layout.specs.Block.{load, save, header, parts, isHeld, heldBytes}
 use Rattle.layout.specs.Good.{SizedIf}
 use Rattle.layout.specs.Valid.{valid}
-use Rattle.layout.specs.Sgb.{Sgb, Game, Snes}
+use Rattle.layout.specs.Sgb.{Game}
 use Rattle.layout.proofs.Saved.{clauses}
 use Rattle.layout.proofs.Fields.{held-length}
 use Rattle.layout.proofs.Made.{Made, made-of, made-put, made-set, made-get, made-save}
-use Rattle.rules.specs.Carry.{withPads, withPalettes, withMap, withMask, withPending, plainly, fixedly, sent, carriedGame, carriedSnes, carried}
-use Rattle.carry.specs.Carrying.{Valid, carriedBlock, changed, changedBlock}
+use Rattle.rules.specs.Carry.{withPads, withPalettes, withMap, withMask, withPending, plainly, carriedGame, carriedSnes, carried}
+use Rattle.carry.specs.Carrying.{Valid, carriedBlock, changed, presetEnded}
 
 pub held : (b : List ℕ) → valid b ≡ true → Valid b
 held b v = record { long = clauses b v .long; tested = v }
@@ -47,20 +47,17 @@ module _ (b : List ℕ) (v : Valid b) where
   pub mode-put : (m : ℕ) → set b 0 m ≡ save (changed (λ s g. withMask m (g .frozen) g) (load b))
   mode-put m = unfold withMask in made-save (changed (λ s g. withMask m (g .frozen) g) (load b)) (made-set made 0 m (lit< tt))
 
-  -- the preset ends: what is left of the block, its palettes, and those that take their place
-  ended : List ℕ
-  ended = over 144 8 (replicate 8 0) (set b 9 0)
+  -- the preset ends: the block, its palettes, and those that take their place
+  ended : Made (presetEnded b) (set (set (header (load b)) 9 0 ∷ drop 1 (parts (load b))) 3 (replicate 8 0))
+  ended = made-put (made-set made 9 0 (lit< tt)) 3 (lit< tt) (replicate 8 0) (length-replicate {A = ℕ} 8 0)
 
-  ended-made : Made ended (set (set (header (load b)) 9 0 ∷ drop 1 (parts (load b))) 3 (replicate 8 0))
-  ended-made = unfold ended in made-put (made-set made 9 0 (lit< tt)) 3 (lit< tt) (replicate 8 0) (length-replicate {A = ℕ} 8 0)
+  pub palettes-left : part 152 32 (presetEnded b) ≡ load b .game .palettes
+  palettes-left = made-get ended 4 (lit< tt)
 
-  pub palettes-left : part 152 32 (over 144 8 (replicate 8 0) (set b 9 0)) ≡ load b .game .palettes
-  palettes-left = unfold ended in made-get ended-made 4 (lit< tt)
-
-  pub palettes-put : (ys : List ℕ) → length ys ≡ 32 → over 152 32 ys (over 144 8 (replicate 8 0) (set b 9 0)) ≡ save (changed (λ s g. withPalettes ys g) (load b))
+  pub palettes-put : (ys : List ℕ) → length ys ≡ 32 → over 152 32 ys (presetEnded b) ≡ save (changed (λ s g. withPalettes ys g) (load b))
   palettes-put ys e =
-      unfold ended withPalettes isHeld heldBytes in
-      made-save (changed (λ s g. withPalettes ys g) (load b)) (made-put ended-made 4 (lit< tt) ys e)
+      unfold withPalettes isHeld heldBytes in
+      made-save (changed (λ s g. withPalettes ys g) (load b)) (made-put ended 4 (lit< tt) ys e)
 
   pub pending-put : (p : Pending) → set (set b 10 (countdownOf p)) 11 (kindOf p) ≡ save (record { port = load b .port; game = load b .game; snes = withPending p (load b .snes) })
   pending-put p =

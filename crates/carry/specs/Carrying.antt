@@ -4,8 +4,9 @@ use mathlib.Core.Path.{_≡_}
 use mathlib.Core.Bool.{true}
 use mathlib.Core.List.{List}
 use Rattle.commands.specs.Command.{Command}
-use lib.ListN.{length}
-use Rattle.layout.specs.Layout.{blockBytes}
+use lib.ListN.{length, replicate, set}
+use Rattle.bits.specs.Over.{over}
+use Rattle.layout.specs.Layout.{blockBytes, presetOnAt, presetAt, presetBytes}
 use Rattle.layout.specs.Block.{load, save}
 use Rattle.layout.specs.Valid.{valid}
 use Rattle.layout.specs.Sgb.{Sgb, Game, Snes}
@@ -26,3 +27,7 @@ changed f u = record { port = u .port; game = f (u .snes) (u .game); snes = u .s
 
 unfoldable pub changedBlock : (Snes → Game → Game) → List ℕ → List ℕ
 changedBlock f b = save (changed f (load b))
+
+-- the bytes with the preset ended: its flag and its words are zero
+abbrev pub presetEnded : List ℕ → List ℕ
+presetEnded b = over presetAt presetBytes (replicate presetBytes 0) (set b presetOnAt 0)

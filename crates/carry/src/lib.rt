@@ -2,14 +2,20 @@
 // Document 01, Commands; Rust: `dispatch_command`. The rules are `Carry` of the crate `rules`; what each command computes is in the crates
 // `palettes`, `attributes` and `commands`. Every worker requires a valid block and leaves one.
 ghost use mathlib.Core.Path.{_≡_};
-ghost use Prim.Native.Nat.{_<_, _≤_};
-ghost use lib.ListN.{length, getD};
+ghost use Prim.Native.Nat.{_<_};
+ghost use lib.ListN.{length};
 ghost use Rattle.attributes.specs.Data.{Whole};
 ghost use Rattle.palettes.specs.Palettes as palette;
-ghost use Rattle.commands.specs.Command.{plain, fixed, palPair, attrBlk, attrLin, attrDiv, attrChr, mltReq, maskEn, palSet, attrSet, freeze, transfer};
+ghost use Rattle.commands.specs.Command.{plain, fixed, palPair, attrBlk, attrLin, attrDiv, attrChr, mltReq, maskEn, palSet, attrSet, freeze, transfer, decode};
 ghost use Rattle.commands.specs.Files.{palSetMap, attrSetMap};
+ghost use Rattle.commands.specs.Good.{GoodPlain};
+ghost use Rattle.commands.specs.Told.{toldPlain, toldFixed};
+ghost use Rattle.layout.specs.Layout.{blockBytes};
 ghost use Rattle.rules.specs.Carry.{withPalettes, withMap, withoutMask};
-ghost use Rattle.carry.specs.Carrying.{Valid, carriedBlock, changedBlock};
+ghost use Rattle.carry.specs.Carrying.{Valid, carriedBlock, changedBlock, presetEnded};
+use commands::Command;
+use commands::FixedCommand;
+use commands::PlainCommand;
 use layout::COUNTDOWN;
 use layout::FILES;
 use layout::FROZEN;
@@ -56,13 +62,21 @@ fn attr_chr(block: &mut [u8], d: &[u8])
     commands::attr_chr(&mut block[MAP..SYSTEM], d);
 }
 
+// The preset ends: its byte and its words are zero.
+fn end_preset(block: &mut [u8])
+    requires { ⌜ length (now block) ≡ blockBytes ⌝ }
+    ensures { λ _. ⌜ now (block .exit) ≡ presetEnded (now (block .entry)) ⌝ }
+{
+    block[PRESET_ON] = 0;
+    bits::clear(&mut block[PRESET..PALETTES]);
+}
+
 // PAL01 to PAL12: the preset ends, and the palettes get their colours.
 fn pal_pair(block: &mut [u8], a: usize, b: usize, d: &[u8])
     requires { ⌜ Valid (now block) × Whole (now d) × (a < 4) × (b < 4) ⌝ }
     ensures { λ _. ⌜ now (block .exit) ≡ carriedBlock (plain (palPair a b (now (d .entry)))) (now (block .entry)) ⌝ }
 {
-    block[PRESET_ON] = 0;
-    bits::clear(&mut block[PRESET..PALETTES]);
+    end_preset(block);
     palettes::pal_pair(&mut block[PALETTES..MAP], a, b, d);
 }
 
@@ -113,8 +127,7 @@ fn take_palettes(block: &mut [u8], d: &[u8])
 {
     let mut chosen = [0u8; 32];
     palettes::pal_set(&mut chosen, &block[SYSTEM..FILES], d);
-    block[PRESET_ON] = 0;
-    bits::clear(&mut block[PRESET..PALETTES]);
+    end_preset(block);
     bits::put(block, PALETTES, &chosen);
 }
 
@@ -147,5 +160,64 @@ fn unmask(block: &mut [u8], flags: u8)
 {
     if flags & 0x40 != 0 {
         block[MASK] = 0;
+    }
+}
+
+// PAL_SET: palettes, file and mask, in this order.
+fn pal_set(block: &mut [u8], d: &[u8])
+    requires { ⌜ Valid (now block) × Whole (now d) ⌝ }
+    ensures { λ _. ⌜ now (block .exit) ≡ carriedBlock (fixed (palSet (now (d .entry)))) (now (block .entry)) ⌝ }
+{
+    take_palettes(block, d);
+    pal_set_file(block, d[9]);
+    unmask(block, d[9]);
+}
+
+// ATTR_SET: file and mask.
+fn attr_set(block: &mut [u8], d: &[u8])
+    requires { ⌜ Valid (now block) × Whole (now d) ⌝ }
+    ensures { λ _. ⌜ now (block .exit) ≡ carriedBlock (fixed (attrSet (now (d .entry)))) (now (block .entry)) ⌝ }
+{
+    attr_set_file(block, d[1]);
+    unmask(block, d[1]);
+}
+
+fn carry_plain(block: &mut [u8], c: PlainCommand, d: &[u8])
+    requires { ⌜ Valid (now block) × Whole (now d) × GoodPlain (toldPlain c (now d)) ⌝ }
+    ensures { λ _. ⌜ now (block .exit) ≡ carriedBlock (plain (toldPlain c (now (d .entry)))) (now (block .entry)) ⌝ }
+{
+    match c {
+        PlainCommand::PalPair(a, b) => pal_pair(block, a, b, d),
+        PlainCommand::AttrBlk => attr_blk(block, d),
+        PlainCommand::AttrLin => attr_lin(block, d),
+        PlainCommand::AttrDiv => attr_div(block, d),
+        PlainCommand::AttrChr => attr_chr(block, d),
+        PlainCommand::MltReq(d1) => mlt_req(block, d1),
+        PlainCommand::MaskEn(mode) => mask_en(block, mode),
+        PlainCommand::Nothing => {}
+    }
+}
+
+fn carry_fixed(block: &mut [u8], c: FixedCommand, d: &[u8])
+    requires { ⌜ Valid (now block) × Whole (now d) ⌝ }
+    ensures { λ _. ⌜ now (block .exit) ≡ carriedBlock (fixed (toldFixed c (now (d .entry)))) (now (block .entry)) ⌝ }
+{
+    match c {
+        FixedCommand::PalSet => pal_set(block, d),
+        FixedCommand::AttrSet => attr_set(block, d),
+        FixedCommand::Freeze => freeze(block),
+        FixedCommand::Transfer(t) => send(block, t),
+    }
+}
+
+// Any completed command.
+pub fn carry_out(block: &mut [u8], d: &[u8])
+    requires { ⌜ Valid (now block) × Whole (now d) ⌝ }
+    ensures { λ _. ⌜ now (block .exit) ≡ carriedBlock (decode (now (d .entry))) (now (block .entry)) ⌝ }
+{
+    let c = commands::decode(d);
+    match c {
+        Command::Plain(p) => carry_plain(block, p, d),
+        Command::Fixed(f) => carry_fixed(block, f, d),
     }
 }
