@@ -1,0 +1,45 @@
+-- The mode and the flag are set, and the frozen capture is cleared.
+use mathlib.Core.Path.{_∙_}
+use denote.Ref.{now}
+use lib.Dec.{lit≤}
+use Prim.Native.Nat.{_+_}
+use lib.ListN.{set, length-set}
+use Rattle.carry.proofs.Carried.{fits, cleared, cleared-long, mask-dropped}
+use borrow.Author.Needs.{needs}
+use Rattle.carry.proofs.mask_en.Statement.{statement}
+use Rattle.carry.proofs.mask_en.Tie as tie
+
+slice-write-block : tie.Need-slice-write-block
+slice-write-block c = search needs
+
+slice-write-block-2 : tie.Need-slice-write-block-2
+slice-write-block-2 c = search needs
+
+sub-clear : tie.Need-sub-clear
+sub-clear c = search needs
+
+part-clear-start : tie.Need-part-clear-start
+part-clear-start c = search needs
+
+part-clear-end : tie.Need-part-clear-end
+part-clear-end c =
+    let start = c .before in
+    fits (set (now (start .args .block)) 0 (start .args .mode)) (length-set (now (start .args .block)) 0 (start .args .mode) ∙ start .pre .long) 12 0 19940 (lit≤ tt)
+
+clear-requires : tie.Need-clear-requires
+clear-requires c κs = search needs
+
+same-length : tie.Need-same-length
+same-length c =
+    let start = c .before .before .before .before .before in
+    cleared-long 14180 5760 (set (set (now (start .args .block)) 0 (start .args .mode)) 12 0) _ (fits (set (now (start .args .block)) 0 (start .args .mode)) (length-set (now (start .args .block)) 0 (start .args .mode) ∙ start .pre .long) 12 0 (14180 + 5760) (lit≤ tt)) (c .before .before .clear .ensures)
+    ∙ length-set (set (now (start .args .block)) 0 (start .args .mode)) 12 0
+    ∙ length-set (now (start .args .block)) 0 (start .args .mode)
+
+returns : tie.Need-returns
+returns c =
+    let start = c .before .before .before .before .before in
+    cleared 14180 5760 (set (set (now (start .args .block)) 0 (start .args .mode)) 12 0) _ (fits (set (now (start .args .block)) 0 (start .args .mode)) (length-set (now (start .args .block)) 0 (start .args .mode) ∙ start .pre .long) 12 0 (14180 + 5760) (lit≤ tt)) (c .before .before .clear .ensures) ∙ mask-dropped _ (start .pre) (start .args .mode)
+
+pub mask-en-spec : {M : Type 1} → statement M
+mask-en-spec = tie.close (tie.spec slice-write-block slice-write-block-2 sub-clear part-clear-start part-clear-end clear-requires same-length returns)
