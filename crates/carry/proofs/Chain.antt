@@ -23,7 +23,8 @@ use Rattle.layout.specs.Good.{Good, GoodGame, GoodSnes}
 use Rattle.layout.specs.Sgb.{Sgb, Game, Snes}
 use Rattle.layout.proofs.Goods.{valid-good, good-valid, good-back}
 use Rattle.rules.specs.Carry.{withPalettes, withMap, withoutMask, fixedly, sent, carriedGame, carriedSnes, carried}
-use Rattle.rules.proofs.Commands.{palettes-good, map-good, pal-long, set-long}
+use Rattle.commands.proofs.Sizes.{length-attr-set, length-pal-set as length-pal-set-map}
+use Rattle.rules.proofs.Commands.{palettes-good, map-good}
 use Rattle.carry.specs.Carrying.{Valid, carriedBlock, changed, changedBlock}
 use Rattle.carry.proofs.Steps.{held}
 
@@ -71,7 +72,7 @@ pal-set-done b v d e₁ e₂ e₃ p q r =
     let flags = getD d 9 0 in
     let pal = taking d in
     let file = filing (palSetMap flags) in
-    let kept = both-kept pal file (taking-kept d) (filing-kept (palSetMap flags) (pal-long flags)) in
+    let kept = both-kept pal file (taking-kept d) (filing-kept (palSetMap flags) (λ f m h e. length-pal-set-map f m h e flags)) in
     r
     ∙ ap (changedBlock (unmasking flags)) (q ∙ ap (changedBlock file) p ∙ changed-again pal file (taking-kept d) b v)
     ∙ changed-again (λ s g. file s (pal s g)) (unmasking flags) kept b v
@@ -84,7 +85,7 @@ attr-set-done b v d e₁ e₂ p q =
     let file = filing (attrSetMap flags) in
     q
     ∙ ap (changedBlock (unmasking flags)) p
-    ∙ changed-again file (unmasking flags) (filing-kept (attrSetMap flags) (set-long flags)) b v
+    ∙ changed-again file (unmasking flags) (filing-kept (attrSetMap flags) (λ f m h e. length-attr-set f m h e flags)) b v
     ∙ (unfold changedBlock carriedBlock carried carriedGame carriedSnes fixedly sent in refl)
 
 -- ---- the decoded command

@@ -117,7 +117,7 @@ pending-kept (P.In n t) h = go (leb n 1) refl
     go true e = tt
     go false e = let lt : 1 < n = leb-false n 1 e in (omega arith, omega arith)
 
-captured-good : (x : List ℕ) (s : Snes) → length x ≡ captureBytes → GoodSnes s → GoodSnes (captured x s)
+pub captured-good : (x : List ℕ) (s : Snes) → length x ≡ captureBytes → GoodSnes s → GoodSnes (captured x s)
 unfolding captured
 captured-good x s l h = record {
   pending = pending-kept (s .pending) (h .pending);
