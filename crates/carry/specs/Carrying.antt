@@ -8,14 +8,9 @@ use lib.ListN.{length, replicate, set}
 use Rattle.bits.specs.Over.{over}
 use Rattle.layout.specs.Layout.{blockBytes, presetOnAt, presetAt, presetBytes}
 use Rattle.layout.specs.Block.{load, save}
-use Rattle.layout.specs.Valid.{valid}
 use Rattle.layout.specs.Sgb.{Sgb, Game, Snes}
 use Rattle.rules.specs.Carry.{carried}
-
--- a valid block; its length, which the test says too, stands by itself, so that each index is seen to be within it
-pub record Valid (b : List ℕ) : Type 0 where
-  pub long : length b ≡ blockBytes
-  pub tested : valid b ≡ true
+pub use Rattle.layout.specs.Valid.{Valid}
 
 -- the block after command c
 unfoldable pub carriedBlock : Command → List ℕ → List ℕ

@@ -1,5 +1,6 @@
 -- Which blocks are valid: V1 to V6 of document 01, The unit block, in its words and order. Each is a test, as code can make it.
 use Prim.Native.Nat.{ℕ}
+use mathlib.Core.Path.{_≡_}
 use mathlib.Core.Bool.{Bool, true, _&&_, _||_, cond}
 use mathlib.Core.List.{List}
 use lib.Bits.{bitAnd}
@@ -59,3 +60,9 @@ validParts b = v1 b && (v2 b && (v3 b && (v4 b && (v5 b && v6 b))))
 
 unfoldable pub valid : List ℕ → Bool
 valid b = eqb (length b) blockBytes && validParts b
+
+-- what a worker on the block asks for: a valid block. Its length, which the test says too, stands by itself, so that an index is seen to
+-- be within it
+pub record Valid (b : List ℕ) : Type 0 where
+  pub long : length b ≡ blockBytes
+  pub tested : valid b ≡ true
