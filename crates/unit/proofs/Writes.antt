@@ -5,13 +5,13 @@ use mathlib.Core.List.{List, _++_}
 use mathlib.Core.Option.{Option, none, some}
 use Prim.Native.Nat.{ℕ, _*_, _/_, _≤_}
 use native.Mathlib.Omega.{arith}
-use lib.ListN.{length, take, drop}
+use lib.ListN.{length, take, drop, length-take}
 use lib.Seq.{take-at}
 use Rattle.receiver.specs.Port.{answered}
 use Rattle.attributes.specs.Data as attributes
 use Rattle.commands.specs.Command.{Command, decode}
 use Rattle.layout.specs.Block.{load, save}
-use Rattle.layout.specs.Valid.{Valid}
+use Rattle.layout.specs.Valid.{valid, Valid}
 use Rattle.layout.specs.Good.{Good}
 use Rattle.layout.specs.Sgb.{Sgb}
 use Rattle.layout.proofs.Goods.{valid-good, good-back, good-valid, length-save}
@@ -33,6 +33,7 @@ nothing-said u v g = go (answered (u .port) v) (answered-whole (u .port) v (g .p
 -- a write that completes one: its n packets stand at the front of the buffer, whole, and are what it carries out
 pub record Said (u : Sgb) (v n : ℕ) (buffer : List ℕ) : Type 0 where
   pub whole : attributes.Whole (take (16 * n) buffer)
+  pub room : 16 * n ≤ length buffer
   pub means : carries (u .port) v ≡ decode (take (16 * n) buffer)
 
 pub said : (u : Sgb) (v n : ℕ) (before buffer : List ℕ) → Good u → n ≡ packetsIn (answer u v) → (n ≡ 0 → ⊥) → buffer ≡ handed (answer u v) before → Said u v n buffer
@@ -45,17 +46,21 @@ said u v n before buffer g e some-in f = go (answered (u .port) v) (answered-who
     go : (o : Option (List ℕ)) → WholeIf o → n ≡ packetsIn o → buffer ≡ handed o before → answered (u .port) v ≡ o → Said u v n buffer
     go none w q h k = absurd (some-in (unfold packetsIn in q))
     go (some d) w q h k =
-        let b : take (16 * n) buffer ≡ d = ap (take (16 * n)) (unfold handed in h) ∙ front d w (unfold packetsIn in q) in
+        let h′ : buffer ≡ d ++ drop (length d) before = (unfold handed in h) in
+        let q′ : n ≡ length d / 16 = (unfold packetsIn in q) in
+        let m : meant (some d) ≡ decode d = (unfold meant in refl) in
+        let b : take (16 * n) buffer ≡ d = ap (take (16 * n)) h′ ∙ front d w q′ in
         record {
           whole = record { least = omega (arith, w .least, ap length b); most = omega (arith, w .most, ap length b) };
-          means = ap meant k ∙ (unfold meant in ap decode (sym b));
+          room = omega (arith, length-take (16 * n) buffer, ap length b, w .packets);
+          means = ap meant k ∙ m ∙ ap decode (sym b);
         }
 
 -- the block between the two is valid
 pub stepped-valid : (b m : List ℕ) (v : ℕ) → Valid b → m ≡ save (stepped (load b) v) → Valid m
 stepped-valid b m v k e =
     let g : Good (stepped (load b) v) = good-stepped (load b) v (valid-good b (k .tested)) in
-    record { long = ap length e ∙ length-save (stepped (load b) v) g; tested = ap Rattle.layout.specs.Valid.valid e ∙ good-valid (stepped (load b) v) g }
+    record { long = ap length e ∙ length-save (stepped (load b) v) g; tested = ap valid e ∙ good-valid (stepped (load b) v) g }
 
 -- and what is carried out on it leaves the block of the written unit
 pub carried-out : (b m x d : List ℕ) (v n : ℕ) (buffer : List ℕ) → Valid b → m ≡ save (stepped (load b) v) → Said (load b) v n buffer → d ≡ take (16 * n) buffer

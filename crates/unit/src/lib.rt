@@ -1,7 +1,10 @@
 // The public calls that change a block: a joypad write, a screen, and the fresh blocks.
 ghost use mathlib.Core.Path.{_≡_};
-ghost use Prim.Native.Nat.{_≤_};
-ghost use lib.ListN.{length};
+ghost use Prim.Native.Nat.{_*_, _≤_};
+ghost use lib.ListN.{length, take};
+ghost use Rattle.attributes.specs.Data.{Whole};
+ghost use Rattle.commands.specs.Command.{decode};
+ghost use Rattle.carry.specs.Carrying.{carriedBlock};
 ghost use Rattle.layout.specs.Layout.{storeBytes};
 ghost use Rattle.layout.specs.Block.{load, save};
 ghost use Rattle.layout.specs.Valid.{Valid};
@@ -19,7 +22,15 @@ pub fn write(block: &mut [u8], value: u8, command: &mut [u8]) -> u8
     if n == 0 {
         return 0;
     }
+    carry(block, command, n);
+    n
+}
+
+// The command of n packets at the front of the buffer, carried out.
+fn carry(block: &mut [u8], command: &[u8], n: u8)
+    requires { ⌜ Valid (now block) × Whole (take (16 * n) (now command)) × (16 * n ≤ length (now command)) ⌝ }
+    ensures { λ _. ⌜ now (block .exit) ≡ carriedBlock (decode (take (16 * n) (now (command .entry)))) (now (block .entry)) ⌝ }
+{
     let end = 16 * bits::wide(n);
     carry::carry_out(block, &command[0..end]);
-    n
 }
