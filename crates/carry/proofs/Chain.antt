@@ -18,12 +18,12 @@ use Rattle.commands.specs.declared.decoding.PlainCommand.{PlainCommand}
 use Rattle.commands.specs.declared.decoding.PlainCommand.the-variants.{PalPair}
 use Rattle.commands.specs.declared.decoding.FixedCommand.{FixedCommand}
 use Rattle.commands.proofs.Decoded.{decode-good}
+use Rattle.commands.proofs.Sizes.{length-attr-set, length-pal-set as length-pal-set-map}
 use Rattle.layout.specs.Block.{load, save}
 use Rattle.layout.specs.Good.{Good, GoodGame, GoodSnes}
 use Rattle.layout.specs.Sgb.{Sgb, Game, Snes}
 use Rattle.layout.proofs.Goods.{valid-good, good-valid, good-back}
 use Rattle.rules.specs.Carry.{withPalettes, withMap, withoutMask, fixedly, sent, carriedGame, carriedSnes, carried}
-use Rattle.commands.proofs.Sizes.{length-attr-set, length-pal-set as length-pal-set-map}
 use Rattle.rules.proofs.Commands.{palettes-good, map-good}
 use Rattle.carry.specs.Carrying.{Valid, carriedBlock, changed, changedBlock}
 use Rattle.carry.proofs.Steps.{held}
@@ -66,13 +66,20 @@ taking-kept d = record { good = λ s g hs h. palettes-good g (palette.palSet d (
 pub filing-kept : (f : List ℕ → List ℕ → List ℕ) → ((s m : List ℕ) → length s ≡ 4050 → length m ≡ 90 → length (f s m) ≡ 90) → Kept (filing f)
 filing-kept f l = record { good = λ s g hs h. map-good g (f (s .files) (g .map)) h (l (s .files) (g .map) (hs .files) (h .map)) }
 
+-- a file leaves ninety bytes
+pub pal-long : (flags : ℕ) (s m : List ℕ) → length s ≡ 4050 → length m ≡ 90 → length (palSetMap flags s m) ≡ 90
+pal-long flags s m h e = length-pal-set-map s m h e flags
+
+pub set-long : (flags : ℕ) (s m : List ℕ) → length s ≡ 4050 → length m ≡ 90 → length (attrSetMap flags s m) ≡ 90
+set-long flags s m h e = length-attr-set s m h e flags
+
 pub pal-set-done : (b : List ℕ) → Valid b → (d e₁ e₂ e₃ : List ℕ) → e₁ ≡ changedBlock (taking d) b → e₂ ≡ changedBlock (filing (palSetMap (getD d 9 0))) e₁
     → e₃ ≡ changedBlock (unmasking (getD d 9 0)) e₂ → e₃ ≡ carriedBlock (fixed (palSet d)) b
 pal-set-done b v d e₁ e₂ e₃ p q r =
     let flags = getD d 9 0 in
     let pal = taking d in
     let file = filing (palSetMap flags) in
-    let kept = both-kept pal file (taking-kept d) (filing-kept (palSetMap flags) (λ f m h e. length-pal-set-map f m h e flags)) in
+    let kept = both-kept pal file (taking-kept d) (filing-kept (palSetMap flags) (pal-long flags)) in
     r
     ∙ ap (changedBlock (unmasking flags)) (q ∙ ap (changedBlock file) p ∙ changed-again pal file (taking-kept d) b v)
     ∙ changed-again (λ s g. file s (pal s g)) (unmasking flags) kept b v
@@ -85,7 +92,7 @@ attr-set-done b v d e₁ e₂ p q =
     let file = filing (attrSetMap flags) in
     q
     ∙ ap (changedBlock (unmasking flags)) p
-    ∙ changed-again file (unmasking flags) (filing-kept (attrSetMap flags) (λ f m h e. length-attr-set f m h e flags)) b v
+    ∙ changed-again file (unmasking flags) (filing-kept (attrSetMap flags) (set-long flags)) b v
     ∙ (unfold changedBlock carriedBlock carried carriedGame carriedSnes fixedly sent in refl)
 
 -- ---- the decoded command

@@ -1,9 +1,9 @@
 -- `carry::attr_chr` meets its contract: the map that comes back is the one part that changes.
 use mathlib.Core.Path.{refl}
 use borrow.Author.Needs.{needs}
-use Rattle.attribute_map.proofs.Packing.{length-pack}
 use Rattle.commands.specs.Command.{attrChr}
 use Rattle.commands.specs.Maps as maps
+use Rattle.commands.proofs.Sizes.{length-attr-chr}
 use Rattle.rules.specs.Carry.{plainly}
 use Rattle.carry.proofs.Steps.{map-changed}
 use Rattle.carry.proofs.attr_chr.Statement.{statement}
@@ -25,11 +25,11 @@ same-length : tie.Need-same-length
 same-length c = search needs
 
 returns : tie.Need-returns
-unfolding plainly maps.attrChr
+unfolding plainly
 returns c =
     let start = c .before .before .before .before .before .before in
     let d = start .args .d .now in
-    map-changed (attrChr d) (maps.attrChr d) (λ g. refl) (λ m. length-pack _) _ _ (start .pre .0) (c .before .before .attr-chr .ensures)
+    map-changed (attrChr d) (maps.attrChr d) (λ g. refl) (length-attr-chr d) _ _ (start .pre .0) (c .before .before .attr-chr .ensures)
 
 pub attr-chr-spec : {M : Type 1} → statement M
 attr-chr-spec = tie.close (tie.spec sub-attr-chr part-attr-chr-start part-attr-chr-end attr-chr-requires same-length returns)

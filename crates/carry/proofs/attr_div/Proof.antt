@@ -1,9 +1,9 @@
 -- `carry::attr_div` meets its contract: the map that comes back is the one part that changes.
 use mathlib.Core.Path.{refl}
 use borrow.Author.Needs.{needs}
-use Rattle.attribute_map.proofs.Packing.{length-pack}
 use Rattle.commands.specs.Command.{attrDiv}
 use Rattle.commands.specs.Maps as maps
+use Rattle.commands.proofs.Sizes.{length-attr-div}
 use Rattle.rules.specs.Carry.{plainly}
 use Rattle.carry.proofs.Steps.{map-changed}
 use Rattle.carry.proofs.attr_div.Statement.{statement}
@@ -25,11 +25,11 @@ same-length : tie.Need-same-length
 same-length c = search needs
 
 returns : tie.Need-returns
-unfolding plainly maps.attrDiv
+unfolding plainly
 returns c =
     let start = c .before .before .before .before .before .before in
     let d = start .args .d .now in
-    map-changed (attrDiv d) (λ m. maps.attrDiv d) (λ g. refl) (λ m. length-pack _) _ _ (start .pre .0) (c .before .before .attr-div .ensures)
+    map-changed (attrDiv d) (λ m. maps.attrDiv d) (λ g. refl) (λ m. length-attr-div d) _ _ (start .pre .0) (c .before .before .attr-div .ensures)
 
 pub attr-div-spec : {M : Type 1} → statement M
 attr-div-spec = tie.close (tie.spec sub-attr-div part-attr-div-start part-attr-div-end attr-div-requires same-length returns)

@@ -1,8 +1,7 @@
 -- File, then mask, which starts from the unit that the file left.
 use lib.ListN.{getD}
 use Rattle.commands.specs.Files.{attrSetMap}
-use Rattle.commands.proofs.Sizes.{length-attr-set}
-use Rattle.carry.proofs.Chain.{filing, filing-kept, changed-valid, attr-set-done}
+use Rattle.carry.proofs.Chain.{filing, filing-kept, changed-valid, set-long, attr-set-done}
 use borrow.Author.Needs.{needs}
 use Rattle.carry.proofs.attr_set.Statement.{statement}
 use Rattle.carry.proofs.attr_set.Tie as tie
@@ -20,7 +19,7 @@ unmask-requires : tie.Need-unmask-requires
 unmask-requires c κs =
     let start = c .before .before .before .before .before .before .before .before .before in
     let flags = getD (start .args .d .now) 1 0 in
-    changed-valid (filing (attrSetMap flags)) (filing-kept (attrSetMap flags) (λ f m h e. length-attr-set f m h e flags)) _ (start .pre .0) _ (c .before .before .before .before .attr-set-file .ensures)
+    changed-valid (filing (attrSetMap flags)) (filing-kept (attrSetMap flags) (set-long flags)) _ (start .pre .0) _ (c .before .before .before .before .attr-set-file .ensures)
 
 same-length : tie.Need-same-length
 same-length c = search needs

@@ -2,8 +2,8 @@
 use Prim.Native.Nat.{ℕ}
 use lib.ListN.{length-replicate}
 use Rattle.commands.specs.Files.{attrSetMap}
-use Rattle.commands.proofs.Sizes.{length-attr-set}
 use Rattle.carry.proofs.Carried.{file-put}
+use Rattle.carry.proofs.Chain.{set-long}
 use borrow.Author.Needs.{needs}
 use Rattle.carry.proofs.attr_set_file.Statement.{statement}
 use Rattle.carry.proofs.attr_set_file.Tie as tie
@@ -51,7 +51,7 @@ returns : tie.Need-returns
 returns c =
     let start = c .before .before .before .before .before .before .before .before .before .before .before .before .before .before .before .before in
     let flags = start .args .flags in
-    file-put _ (start .pre) (attrSetMap flags) (λ f m h e. length-attr-set f m h e flags) _ _ _ _ (length-replicate {A = ℕ} 90 0) (c .before .before .before .before .before .before .before .before .before .before .before .put .ensures) (c .before .before .before .before .before .before .attr-set-map .ensures) (c .before .before .put2 .ensures)
+    file-put _ (start .pre) (attrSetMap flags) (set-long flags) _ _ _ _ (length-replicate {A = ℕ} 90 0) (c .before .before .before .before .before .before .before .before .before .before .before .put .ensures) (c .before .before .before .before .before .before .attr-set-map .ensures) (c .before .before .put2 .ensures)
 
 pub attr-set-file-spec : {M : Type 1} → statement M
 attr-set-file-spec = tie.close (tie.spec slice-aggregate-put sub-put part-put-start part-put-end put-requires slice-aggregate-attr-set-map sub-attr-set-map part-attr-set-map-start part-attr-set-map-end attr-set-map-requires slice-aggregate-put-2 put-requires-2 same-length returns)

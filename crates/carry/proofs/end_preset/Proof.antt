@@ -3,6 +3,7 @@ use mathlib.Core.Path.{_∙_}
 use denote.Ref.{now}
 use lib.Dec.{lit≤}
 use Prim.Native.Nat.{_+_}
+use native.Mathlib.Omega.{arith}
 use lib.ListN.{set, length-set}
 use Rattle.carry.proofs.Carried.{fits, cleared, cleared-long}
 use borrow.Author.Needs.{needs}
@@ -19,21 +20,21 @@ part-clear-start : tie.Need-part-clear-start
 part-clear-start c = search needs
 
 part-clear-end : tie.Need-part-clear-end
-part-clear-end c = fits (now (c .before .args .block)) (c .before .pre) 9 0 152 (lit≤ tt)
+part-clear-end c = simp length-set (omega (arith, c .before .pre))
 
 clear-requires : tie.Need-clear-requires
 clear-requires c κs = search needs
+
+returns : tie.Need-returns
+returns c =
+    let start = c .before .before .before .before .before in
+    cleared 144 8 (set (now (start .args .block)) 9 0) _ (fits (now (start .args .block)) (start .pre) 9 0 (144 + 8) (lit≤ tt)) (c .before .before .clear .ensures)
 
 same-length : tie.Need-same-length
 same-length c =
     let start = c .before .before .before .before .before in
     cleared-long 144 8 (set (now (start .args .block)) 9 0) _ (fits (now (start .args .block)) (start .pre) 9 0 (144 + 8) (lit≤ tt)) (c .before .before .clear .ensures)
     ∙ length-set (now (start .args .block)) 9 0
-
-returns : tie.Need-returns
-returns c =
-    let start = c .before .before .before .before .before in
-    cleared 144 8 (set (now (start .args .block)) 9 0) _ (fits (now (start .args .block)) (start .pre) 9 0 (144 + 8) (lit≤ tt)) (c .before .before .clear .ensures)
 
 pub end-preset-spec : {M : Type 1} → statement M
 end-preset-spec = tie.close (tie.spec slice-write-block sub-clear part-clear-start part-clear-end clear-requires same-length returns)

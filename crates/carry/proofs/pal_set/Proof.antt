@@ -1,8 +1,7 @@
 -- Palettes, file, mask: each step starts from the unit that the one before left.
 use lib.ListN.{getD}
 use Rattle.commands.specs.Files.{palSetMap}
-use Rattle.commands.proofs.Sizes.{length-pal-set}
-use Rattle.carry.proofs.Chain.{taking, taking-kept, filing, filing-kept, changed-valid, pal-set-done}
+use Rattle.carry.proofs.Chain.{taking, taking-kept, filing, filing-kept, changed-valid, pal-long, pal-set-done}
 use borrow.Author.Needs.{needs}
 use Rattle.carry.proofs.pal_set.Statement.{statement}
 use Rattle.carry.proofs.pal_set.Tie as tie
@@ -25,7 +24,7 @@ unmask-requires : tie.Need-unmask-requires
 unmask-requires c κs =
     let start = c .before .before .before .before .before .before .before .before .before .before .before .before .before in
     let flags = getD (start .args .d .now) 9 0 in
-    changed-valid (filing (palSetMap flags)) (filing-kept (palSetMap flags) (λ f m h e. length-pal-set f m h e flags)) _
+    changed-valid (filing (palSetMap flags)) (filing-kept (palSetMap flags) (pal-long flags)) _
     (changed-valid (taking (start .args .d .now)) (taking-kept _) _ (start .pre .0) _ (c .before .before .before .before .before .before .before .before .before .take-palettes .ensures))
     _ (c .before .before .before .before .pal-set-file .ensures)
 

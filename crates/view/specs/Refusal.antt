@@ -1,0 +1,20 @@
+-- The refusals that every call over a block gives first. Document 01, Refusals by number: "1 block length is not 30,020; 2 block is not
+-- valid .. The lowest number wins."
+use Prim.Native.Nat.{ℕ}
+use mathlib.Core.Path.{_≡_}
+use mathlib.Core.Bool.{true, cond}
+use mathlib.Core.List.{List}
+use lib.Dec.{eqb}
+use lib.ListN.{length}
+use Rattle.pulses.specs.Answer.{Answer, refused}
+use Rattle.layout.specs.Layout.{blockBytes}
+use Rattle.layout.specs.Valid.{valid}
+pub use Rattle.layout.specs.Valid.{Valid}
+
+-- what a call answers that would answer a of a valid block
+unfoldable pub refusing : {A : Type 0} → List ℕ → Answer A → Answer A
+refusing b a = cond (eqb (length b) blockBytes) (cond (valid b) a (refused 2)) (refused 1)
+
+-- the number of that refusal, or 0
+unfoldable pub refusalOf : List ℕ → ℕ
+refusalOf b = cond (eqb (length b) blockBytes) (cond (valid b) 0 2) 1

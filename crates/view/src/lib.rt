@@ -1,0 +1,167 @@
+// The public calls that only look at a block. Document 01, Refusals by number, and Screens, border and picture.
+// None asks anything of its caller: a block of another length is refused (1), one that is not valid (2), then what is asked (4, 6).
+// A refusal changes no lent byte. The meaning is in specs/Drawn, with the refusals inside. Each call tests, and then asks a worker of
+// `drawn`, which takes a valid block and refuses nothing; whoever looks at one block many times asks `refusal` once and then the workers.
+ghost use mathlib.Core.Path.{_≡_};
+ghost use Rattle.pulses.specs.Answer.{given};
+ghost use Rattle.border.specs.Border.{colourOf};
+ghost use Rattle.view.specs.Refusal.{refusalOf};
+ghost use Rattle.view.specs.Drawn.{modeOf, backdropAnswer, shadeAnswer, entryAnswer, borderAnswer, rowAnswer, rowDrawn, pictureAnswer, pictureDrawn, leaves};
+ghost use Rattle.view.specs.Answers.{numberTold, colourTold, entryTold, borderTold};
+use border::BorderColor;
+use colour::BorderMapEntry;
+use colour::Rgb555;
+
+pub mod drawn;
+mod parts;
+
+// A refusal by its number, or a number that was asked for.
+pub enum Number {
+    Refused(u8),
+    Is(usize),
+}
+
+pub enum Colour {
+    Refused(u8),
+    Is(Rgb555),
+}
+
+pub enum Entry {
+    Refused(u8),
+    Is(BorderMapEntry),
+}
+
+pub enum Border {
+    Refused(u8),
+    Transparent,
+    Opaque(Rgb555),
+}
+
+// The refusal that a block by itself calls for, or 0.
+pub fn refusal(block: &[u8]) -> u8
+    ensures { λ r. ⌜ r ≡ refusalOf (now (block .entry)) ⌝ }
+{
+    if block.len() != layout::BLOCK {
+        return 1;
+    }
+    if valid::valid(block) { 0 } else { 2 }
+}
+
+pub fn mask_mode(block: &[u8]) -> Number
+    ensures { λ r. ⌜ numberTold r ≡ modeOf (now (block .entry)) ⌝ }
+{
+    let no = refusal(block);
+    if no != 0 {
+        return Number::Refused(no);
+    }
+    Number::Is(bits::wide(parts::mode(block)))
+}
+
+// The colour of everything that nothing covers.
+pub fn backdrop(block: &[u8]) -> Colour
+    ensures { λ r. ⌜ colourTold r ≡ backdropAnswer (now (block .entry)) ⌝ }
+{
+    let no = refusal(block);
+    if no != 0 {
+        return Colour::Refused(no);
+    }
+    Colour::Is(drawn::backdrop(block))
+}
+
+// The colour of a shade at column x of row y of the screen. It doesn't look at the mask.
+pub fn color_at(block: &[u8], x: usize, y: usize, shade: u8) -> Colour
+    ensures { λ r. ⌜ colourTold r ≡ shadeAnswer (now (block .entry)) x y shade ⌝ }
+{
+    let no = refusal(block);
+    if no != 0 {
+        return Colour::Refused(no);
+    }
+    if x >= 160 {
+        return Colour::Refused(4);
+    }
+    if y >= 144 {
+        return Colour::Refused(4);
+    }
+    if shade > 3 {
+        return Colour::Refused(4);
+    }
+    Colour::Is(drawn::shade(block, x, y, shade))
+}
+
+// The border's map word at a column of a row.
+pub fn map_entry(block: &[u8], column: usize, row: usize) -> Entry
+    ensures { λ r. ⌜ entryTold r ≡ entryAnswer (now (block .entry)) column row ⌝ }
+{
+    let no = refusal(block);
+    if no != 0 {
+        return Entry::Refused(no);
+    }
+    if column >= 32 {
+        return Entry::Refused(4);
+    }
+    if row >= 28 {
+        return Entry::Refused(4);
+    }
+    Entry::Is(drawn::entry(block, column, row))
+}
+
+// The border's colour at column x of row y of the picture.
+pub fn border_color_at(block: &[u8], x: usize, y: usize) -> Border
+    ensures { λ r. ⌜ borderTold r ≡ borderAnswer (now (block .entry)) x y ⌝ }
+{
+    let no = refusal(block);
+    if no != 0 {
+        return Border::Refused(no);
+    }
+    if x >= 256 {
+        return Border::Refused(4);
+    }
+    if y >= 224 {
+        return Border::Refused(4);
+    }
+    shown_of(drawn::border(block, x, y))
+}
+
+fn shown_of(color: BorderColor) -> Border
+    ensures { λ r. ⌜ borderTold r ≡ given (colourOf color) ⌝ }
+{
+    match color {
+        BorderColor::Transparent => Border::Transparent,
+        BorderColor::Opaque(c) => Border::Opaque(c),
+    }
+}
+
+// Row y of the picture: 256 words.
+pub fn row(block: &[u8], y: usize, out: &mut [u16]) -> Number
+    ensures { λ r. ⌜ numberTold r ≡ rowAnswer (now (block .entry)) y (now (out .entry)) ⌝ }
+    ensures { λ _. ⌜ now (out .exit) ≡ leaves (rowAnswer (now (block .entry)) y (now (out .entry))) (rowDrawn (now (block .entry)) y (now (out .entry))) (now (out .entry)) ⌝ }
+{
+    let no = refusal(block);
+    if no != 0 {
+        return Number::Refused(no);
+    }
+    if y >= 224 {
+        return Number::Refused(4);
+    }
+    if out.len() < 256 {
+        return Number::Refused(6);
+    }
+    drawn::draw_row(block, y, out);
+    Number::Is(256)
+}
+
+// The whole picture: 57,344 words, row by row.
+pub fn picture(block: &[u8], out: &mut [u16]) -> Number
+    ensures { λ r. ⌜ numberTold r ≡ pictureAnswer (now (block .entry)) (now (out .entry)) ⌝ }
+    ensures { λ _. ⌜ now (out .exit) ≡ leaves (pictureAnswer (now (block .entry)) (now (out .entry))) (pictureDrawn (now (block .entry)) (now (out .entry))) (now (out .entry)) ⌝ }
+{
+    let no = refusal(block);
+    if no != 0 {
+        return Number::Refused(no);
+    }
+    if out.len() < 57344 {
+        return Number::Refused(6);
+    }
+    drawn::draw_picture(block, out);
+    Number::Is(57344)
+}

@@ -1,0 +1,74 @@
+// The parts of a valid block that the picture is drawn from, lent as they stand (specs/Drawn, `partsOf`).
+ghost use mathlib.Core.Path.{_≡_};
+ghost use lib.ListN.{length};
+ghost use Rattle.layout.specs.Block.{load};
+ghost use Rattle.view.specs.Refusal.{Valid};
+ghost use Rattle.view.specs.Drawn.{partsOf};
+
+pub fn palettes(block: &[u8]) -> &[u8]
+    requires { ⌜ Valid (now block) ⌝ }
+    ensures { λ r. ⌜ (now r ≡ partsOf (load (now (block .entry))) .palettes) × (length (now r) ≡ 32) ⌝ }
+{
+    &block[layout::PALETTES..layout::MAP]
+}
+
+pub fn preset(block: &[u8]) -> &[u8]
+    requires { ⌜ Valid (now block) ⌝ }
+    ensures { λ r. ⌜ (now r ≡ partsOf (load (now (block .entry))) .preset) × (length (now r) ≡ 8) ⌝ }
+{
+    &block[layout::PRESET..layout::PALETTES]
+}
+
+pub fn in_force(block: &[u8]) -> bool
+    requires { ⌜ Valid (now block) ⌝ }
+    ensures { λ r. ⌜ r ≡ partsOf (load (now (block .entry))) .inForce ⌝ }
+{
+    block[layout::PRESET_ON] == 1
+}
+
+pub fn attributes(block: &[u8]) -> &[u8]
+    requires { ⌜ Valid (now block) ⌝ }
+    ensures { λ r. ⌜ (now r ≡ partsOf (load (now (block .entry))) .attributes) × (length (now r) ≡ 90) ⌝ }
+{
+    &block[layout::MAP..layout::SYSTEM]
+}
+
+pub fn mode(block: &[u8]) -> u8
+    requires { ⌜ Valid (now block) ⌝ }
+    ensures { λ r. ⌜ r ≡ partsOf (load (now (block .entry))) .mode ⌝ }
+{
+    block[layout::MASK]
+}
+
+// The capture that is displayed.
+pub fn shown(block: &[u8]) -> &[u8]
+    requires { ⌜ Valid (now block) ⌝ }
+    ensures { λ r. ⌜ (now r ≡ partsOf (load (now (block .entry))) .screen) × (length (now r) ≡ 5760) ⌝ }
+{
+    screen::displayed_screen(
+        &block[layout::LIVE..layout::FROZEN],
+        &block[layout::FROZEN..layout::TILES],
+        block[layout::MASK],
+    )
+}
+
+pub fn tiles(block: &[u8]) -> &[u8]
+    requires { ⌜ Valid (now block) ⌝ }
+    ensures { λ r. ⌜ (now r ≡ partsOf (load (now (block .entry))) .tiles) × (length (now r) ≡ 8192) ⌝ }
+{
+    &block[layout::TILES..layout::BORDER_MAP]
+}
+
+pub fn map(block: &[u8]) -> &[u8]
+    requires { ⌜ Valid (now block) ⌝ }
+    ensures { λ r. ⌜ (now r ≡ partsOf (load (now (block .entry))) .map) × (length (now r) ≡ 1792) ⌝ }
+{
+    &block[layout::BORDER_MAP..layout::BORDER_PALETTES]
+}
+
+pub fn borders(block: &[u8]) -> &[u8]
+    requires { ⌜ Valid (now block) ⌝ }
+    ensures { λ r. ⌜ (now r ≡ partsOf (load (now (block .entry))) .borders) × (length (now r) ≡ 96) ⌝ }
+{
+    &block[layout::BORDER_PALETTES..layout::BLOCK]
+}
