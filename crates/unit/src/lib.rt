@@ -1,15 +1,54 @@
-// The public calls that change a block: a joypad write, a screen, and the fresh blocks.
+// The public calls that change a block: a joypad write, a screen, and the fresh blocks; and the check of a saved one.
+// Rust: `write_joypad`, `update_screen`, `new`, `post_boot`. None asks anything of its caller, and a refusal changes no lent byte.
+// The meaning is in specs/Calls. Beneath stand workers that require a valid block and leave one, so that a long run checks once.
 ghost use mathlib.Core.Path.{_≡_};
 ghost use Prim.Native.Nat.{_*_, _≤_};
 ghost use lib.ListN.{length, take};
 ghost use Rattle.attributes.specs.Data.{Whole};
 ghost use Rattle.commands.specs.Command.{decode};
-ghost use Rattle.carry.specs.Carrying.{carriedBlock};
 ghost use Rattle.layout.specs.Layout.{storeBytes};
 ghost use Rattle.layout.specs.Block.{load, save};
 ghost use Rattle.layout.specs.Valid.{Valid};
 ghost use Rattle.rules.specs.Write.{written, answer};
+ghost use Rattle.view.specs.Refusal.{refusalOf};
 ghost use Rattle.port.specs.Bytes.{handed, packetsIn};
+ghost use Rattle.carry.specs.Carrying.{carriedBlock};
+ghost use Rattle.unit.specs.Calls.{writeAnswer, writeBlock, writeCommand, screenAnswer, screenBlock, freshAnswer, newBlock, postBootBlock};
+ghost use Rattle.unit.specs.Answers.{writtenTold, shownTold};
+use transfer::pending::Landed;
+
+// What a write answers: a refusal, nothing, or that a command of this many packets stands at the front of the buffer.
+pub enum Written {
+    Refused(u8),
+    Nothing,
+    Command(u8),
+}
+
+// What a screen answers: a refusal, or what landed.
+pub enum Shown {
+    Refused(u8),
+    Took(Landed),
+}
+
+// A write to the joypad register.
+pub fn write_joypad(block: &mut [u8], value: u8, command: &mut [u8]) -> Written
+    ensures { λ r. ⌜ writtenTold r (now (command .exit)) ≡ writeAnswer (now (block .entry)) value (now (command .entry)) ⌝ }
+    ensures { λ _. ⌜ now (block .exit) ≡ writeBlock (now (block .entry)) value (now (command .entry)) ⌝ }
+    ensures { λ _. ⌜ now (command .exit) ≡ writeCommand (now (block .entry)) value (now (command .entry)) ⌝ }
+{
+    let no = view::refusal(block);
+    if no != 0 {
+        return Written::Refused(no);
+    }
+    if command.len() < 112 {
+        return Written::Refused(6);
+    }
+    let n = write(block, value, command);
+    if n == 0 {
+        return Written::Nothing;
+    }
+    Written::Command(n)
+}
 
 // The same on a valid block, with room for a command: answers the packets of the command that is complete, or 0.
 pub fn write(block: &mut [u8], value: u8, command: &mut [u8]) -> u8
@@ -33,4 +72,49 @@ fn carry(block: &mut [u8], command: &[u8], n: u8)
 {
     let end = 16 * bits::wide(n);
     carry::carry_out(block, &command[0..end]);
+}
+
+// A screen: it becomes the live capture, and a transfer that is due lands.
+pub fn update_screen(block: &mut [u8], screen: &[u8]) -> Shown
+    ensures { λ r. ⌜ shownTold r ≡ screenAnswer (now (block .entry)) (now (screen .entry)) ⌝ }
+    ensures { λ _. ⌜ now (block .exit) ≡ screenBlock (now (block .entry)) (now (screen .entry)) ⌝ }
+{
+    let no = view::refusal(block);
+    if no != 0 {
+        return Shown::Refused(no);
+    }
+    if screen.len() != 5760 {
+        return Shown::Refused(3);
+    }
+    Shown::Took(show::show(block, screen))
+}
+
+// The fresh blocks answer 1 for a block of another length, and else 0.
+pub fn new(block: &mut [u8]) -> u8
+    ensures { λ r. ⌜ r ≡ freshAnswer (now (block .entry)) ⌝ }
+    ensures { λ _. ⌜ now (block .exit) ≡ newBlock (now (block .entry)) ⌝ }
+{
+    if block.len() != layout::BLOCK {
+        return 1;
+    }
+    fresh::new(block);
+    0
+}
+
+pub fn post_boot(block: &mut [u8]) -> u8
+    ensures { λ r. ⌜ r ≡ freshAnswer (now (block .entry)) ⌝ }
+    ensures { λ _. ⌜ now (block .exit) ≡ postBootBlock (now (block .entry)) ⌝ }
+{
+    if block.len() != layout::BLOCK {
+        return 1;
+    }
+    fresh::post_boot(block);
+    0
+}
+
+// A saved block: 1 for another length, 2 if it is not valid, and else 0.
+pub fn check(block: &[u8]) -> u8
+    ensures { λ r. ⌜ r ≡ refusalOf (now (block .entry)) ⌝ }
+{
+    view::refusal(block)
 }

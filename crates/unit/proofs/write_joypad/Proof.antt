@@ -1,0 +1,77 @@
+-- `unit::write_joypad` meets its contract: the refusals in their order, and else the worker, whose answer tells the command in the buffer.
+use mathlib.Core.Path.{sym, _∙_}
+use native.Mathlib.Omega.{arith}
+use borrow.Author.Needs.{needs}
+use Rattle.layout.proofs.Goods.{valid-good}
+use Rattle.layout.specs.Block.{load}
+use Rattle.view.proofs.Refusals.{refuses, accepts}
+use Rattle.unit.specs.Answers.{writtenTold}
+use Rattle.unit.specs.Calls.{writeAnswer}
+use Rattle.unit.proofs.Calling.{write-refused, write-short, write-given}
+use Rattle.unit.proofs.Writes.{none-answered, said}
+use Rattle.unit.proofs.write_joypad.Statement.{statement}
+use Rattle.unit.proofs.write_joypad.Tie as tie
+
+refusal-requires : tie.Need-refusal-requires
+refusal-requires c κs = search needs
+
+same-length : tie.Need-same-length
+same-length c = search needs
+
+returns : tie.Need-returns
+unfolding writtenTold writeAnswer
+returns c =
+    let start = c .before .before .before .before .before .args in
+    write-refused (start .block .now) (start .value) (start .command .now) _ (refuses _ _ _ (c .before .refusal .ensures) (c .if1 .taken))
+
+same-length-2 : tie.Need-same-length-2
+same-length-2 c = search needs
+
+returns-2 : tie.Need-returns-2
+unfolding writtenTold
+returns-2 c =
+    let start = c .before .before .before .before .before .before .args in
+    let r = c .before .before .refusal in
+    write-refused (start .block .now) (start .value) (start .command .now) 6
+    (write-short (start .block .now) (start .value) (start .command .now) (accepts _ (r .result) (r .ensures) (c .before .if1 .left)) (c .if2 .taken))
+
+write-requires : tie.Need-write-requires
+write-requires c κs =
+    let r = c .before .before .before .before .refusal in
+    (accepts _ (r .result) (r .ensures) (c .before .before .before .if1 .left), c .before .before .if2 .left)
+
+same-length-3 : tie.Need-same-length-3
+same-length-3 c = search needs
+
+same-length-4 : tie.Need-same-length-4
+same-length-4 c = search needs
+
+returns-3 : tie.Need-returns-3
+unfolding writtenTold
+returns-3 c =
+    let start = c .before .before .before .before .before .before .before .before .before .before .before .before .before .before .args in
+    let r = c .before .before .before .before .before .before .before .before .before .before .refusal in
+    let w = c .before .before .before .before .before .write in
+    let ok = accepts (start .block .now) (r .result) (r .ensures) (c .before .before .before .before .before .before .before .before .before .if1 .left) in
+    write-given (start .block .now) (start .value) (start .command .now) _ _ _ ok (c .before .before .before .before .before .before .before .before .if2 .left)
+    (none-answered (load (start .block .now)) (start .value) (valid-good (start .block .now) (ok .tested)) (sym (w .ensures .0) ∙ c .if3 .taken))
+    (w .ensures .1 .0) (w .ensures .1 .1)
+
+same-length-5 : tie.Need-same-length-5
+same-length-5 c = search needs
+
+same-length-6 : tie.Need-same-length-6
+same-length-6 c = search needs
+
+returns-4 : tie.Need-returns-4
+unfolding writtenTold
+returns-4 c =
+    let start = c .before .before .before .before .before .before .before .before .before .before .before .before .before .before .args in
+    let r = c .before .before .before .before .before .before .before .before .before .before .refusal in
+    let w = c .before .before .before .before .before .write in
+    let ok = accepts (start .block .now) (r .result) (r .ensures) (c .before .before .before .before .before .before .before .before .before .if1 .left) in
+    let k = said (load (start .block .now)) (start .value) (w .result) (start .command .now) _ (valid-good (start .block .now) (ok .tested)) (w .ensures .0) (c .if3 .left) (w .ensures .1 .1) in
+    write-given (start .block .now) (start .value) (start .command .now) _ _ _ ok (c .before .before .before .before .before .before .before .before .if2 .left) (k .told) (w .ensures .1 .0) (w .ensures .1 .1)
+
+pub write-joypad-spec : {M : Type 1} → statement M
+write-joypad-spec = tie.close (tie.spec refusal-requires same-length returns same-length-2 returns-2 write-requires same-length-3 same-length-4 returns-3 same-length-5 same-length-6 returns-4)

@@ -1,0 +1,49 @@
+-- The public calls that change a block: what each answers and every lent byte after it, for all input. Document 01, Refusals by number:
+-- "The lowest number wins. A refusal answers the number alone, and no lent byte changes." What a call does to a valid block is the rules'
+-- (`Write` and `Screen` of the crate `rules`), read from the block and put back (`load` and `save`).
+use Prim.Native.Nat.{ℕ}
+use mathlib.Core.Bool.{cond}
+use mathlib.Core.List.{List}
+use mathlib.Core.Option.{Option}
+use lib.Dec.{eqb, leb}
+use lib.ListN.{length}
+use Rattle.pulses.specs.Answer.{Answer, refused, given}
+use Rattle.transfer.specs.declared.pending.Landed.{Landed}
+use Rattle.layout.specs.Layout.{blockBytes, storeBytes, captureBytes}
+use Rattle.layout.specs.Block.{load, save}
+use Rattle.layout.specs.Fresh.{new, postBoot}
+use Rattle.rules.specs.Write.{written, answer}
+use Rattle.rules.specs.Screen.{screened, landing}
+use Rattle.port.specs.Bytes.{handed}
+use Rattle.view.specs.Refusal.{refusing}
+use Rattle.view.specs.Drawn.{leaves}
+
+-- ---- a joypad write, with a buffer for the command that it may complete: refusals 1, 2, 6 (112)
+
+unfoldable pub writeAnswer : List ℕ → ℕ → List ℕ → Answer (Option (List ℕ))
+writeAnswer b v command = refusing b (cond (leb storeBytes (length command)) (given (answer (load b) v)) (refused 6))
+
+unfoldable pub writeBlock : List ℕ → ℕ → List ℕ → List ℕ
+writeBlock b v command = leaves (writeAnswer b v command) (save (written (load b) v)) b
+
+unfoldable pub writeCommand : List ℕ → ℕ → List ℕ → List ℕ
+writeCommand b v command = leaves (writeAnswer b v command) (handed (answer (load b) v) command) command
+
+-- ---- a screen: refusals 1, 2, 3
+
+unfoldable pub screenAnswer : List ℕ → List ℕ → Answer Landed
+screenAnswer b x = refusing b (cond (eqb (length x) captureBytes) (given (landing (load b .snes))) (refused 3))
+
+unfoldable pub screenBlock : List ℕ → List ℕ → List ℕ
+screenBlock b x = leaves (screenAnswer b x) (save (screened (load b) x)) b
+
+-- ---- a fresh block: refusal 1 alone
+
+unfoldable pub freshAnswer : List ℕ → ℕ
+freshAnswer b = cond (eqb (length b) blockBytes) 0 1
+
+unfoldable pub newBlock : List ℕ → List ℕ
+newBlock b = cond (eqb (length b) blockBytes) new b
+
+unfoldable pub postBootBlock : List ℕ → List ℕ
+postBootBlock b = cond (eqb (length b) blockBytes) postBoot b
