@@ -1,2 +1,4 @@
 pub mod Calling
+pub mod Determined
+pub mod Together
 pub mod Writes

@@ -20,6 +20,7 @@ use Rattle.rules.specs.Write.{meant, carries, stepped, written, answer}
 use Rattle.rules.proofs.Keeps.{Whole, WholeIf, answered-whole, good-stepped}
 use Rattle.port.specs.Bytes.{handed, packetsIn}
 use Rattle.carry.specs.Carrying.{carriedBlock}
+use Rattle.unit.specs.Calls.{counted}
 
 -- a write that completes no command
 pub nothing-said : (u : Sgb) (v : ℕ) → Good u → packetsIn (answer u v) ≡ 0 → save (stepped u v) ≡ save (written u v)
@@ -30,19 +31,19 @@ nothing-said u v g = go (answered (u .port) v) (answered-whole (u .port) v (g .p
     go none w e = unfold meant carried carriedGame carriedSnes plainly in refl
     go (some d) w e = let z : length d / 16 ≡ 0 = (unfold packetsIn in e) in absurd (omega (arith, w .least))
 
-pub none-answered : (u : Sgb) (v : ℕ) → Good u → packetsIn (answer u v) ≡ 0 → answer u v ≡ none
+pub none-answered : (u : Sgb) (v : ℕ) → Good u → packetsIn (answer u v) ≡ 0 → counted (answer u v) ≡ none
 unfolding answer
 none-answered u v g = go (answered (u .port) v) (answered-whole (u .port) v (g .port))
   where
-    go : (o : Option (List ℕ)) → WholeIf o → packetsIn o ≡ 0 → o ≡ none
-    go none w e = refl
+    go : (o : Option (List ℕ)) → WholeIf o → packetsIn o ≡ 0 → counted o ≡ none
+    go none w e = unfold counted in refl
     go (some d) w e = let z : length d / 16 ≡ 0 = (unfold packetsIn in e) in absurd (omega (arith, w .least))
 
 -- a write that completes one: its n packets stand at the front of the buffer, whole, and are what it carries out
 pub record Said (u : Sgb) (v n : ℕ) (buffer : List ℕ) : Type 0 where
   pub whole : attributes.Whole (take (16 * n) buffer)
   pub room : 16 * n ≤ length buffer
-  pub told : answer u v ≡ some (take (16 * n) buffer)
+  pub told : counted (answer u v) ≡ some n
   pub means : carries (u .port) v ≡ decode (take (16 * n) buffer)
 
 pub said : (u : Sgb) (v n : ℕ) (before buffer : List ℕ) → Good u → n ≡ packetsIn (answer u v) → (n ≡ 0 → ⊥) → buffer ≡ handed (answer u v) before → Said u v n buffer
@@ -58,11 +59,12 @@ said u v n before buffer g e some-in f = go (answered (u .port) v) (answered-who
         let h′ : buffer ≡ d ++ drop (length d) before = (unfold handed in h) in
         let q′ : n ≡ length d / 16 = (unfold packetsIn in q) in
         let m : meant (some d) ≡ decode d = (unfold meant in refl) in
+        let z : counted (some d) ≡ some (length d / 16) = (unfold counted in refl) in
         let b : take (16 * n) buffer ≡ d = ap (take (16 * n)) h′ ∙ front d w q′ in
         record {
           whole = record { least = omega (arith, w .least, ap length b); most = omega (arith, w .most, ap length b) };
           room = omega (arith, length-take (16 * n) buffer, ap length b, w .packets);
-          told = k ∙ ap some (sym b);
+          told = ap counted k ∙ z ∙ ap some (sym q′);
           means = ap meant k ∙ m ∙ ap decode (sym b);
         }
 

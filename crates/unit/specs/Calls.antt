@@ -1,10 +1,10 @@
 -- The public calls that change a block: what each answers and every lent byte after it, for all input. Document 01, Refusals by number:
 -- "The lowest number wins. A refusal answers the number alone, and no lent byte changes." What a call does to a valid block is the rules'
 -- (`Write` and `Screen` of the crate `rules`), read from the block and put back (`load` and `save`).
-use Prim.Native.Nat.{ℕ}
+use Prim.Native.Nat.{ℕ, _/_}
 use mathlib.Core.Bool.{cond}
 use mathlib.Core.List.{List}
-use mathlib.Core.Option.{Option}
+use mathlib.Core.Option.{Option, none, some}
 use lib.Dec.{eqb, leb}
 use lib.ListN.{length}
 use Rattle.pulses.specs.Answer.{Answer, refused, given}
@@ -20,8 +20,13 @@ use Rattle.view.specs.Drawn.{leaves}
 
 -- ---- a joypad write, with a buffer for the command that it may complete: refusals 1, 2, 6 (112)
 
-unfoldable pub writeAnswer : List ℕ → ℕ → List ℕ → Answer (Option (List ℕ))
-writeAnswer b v command = refusing b (cond (leb storeBytes (length command)) (given (answer (load b) v)) (refused 6))
+-- the packets of a command that is complete: its bytes stand at the front of the buffer
+unfoldable pub counted : Option (List ℕ) → Option ℕ
+counted none = none
+counted (some d) = some (length d / 16)
+
+unfoldable pub writeAnswer : List ℕ → ℕ → List ℕ → Answer (Option ℕ)
+writeAnswer b v command = refusing b (cond (leb storeBytes (length command)) (given (counted (answer (load b) v))) (refused 6))
 
 unfoldable pub writeBlock : List ℕ → ℕ → List ℕ → List ℕ
 writeBlock b v command = leaves (writeAnswer b v command) (save (written (load b) v)) b

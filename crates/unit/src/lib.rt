@@ -32,7 +32,7 @@ pub enum Shown {
 
 // A write to the joypad register.
 pub fn write_joypad(block: &mut [u8], value: u8, command: &mut [u8]) -> Written
-    ensures { λ r. ⌜ writtenTold r (now (command .exit)) ≡ writeAnswer (now (block .entry)) value (now (command .entry)) ⌝ }
+    ensures { λ r. ⌜ writtenTold r ≡ writeAnswer (now (block .entry)) value (now (command .entry)) ⌝ }
     ensures { λ _. ⌜ now (block .exit) ≡ writeBlock (now (block .entry)) value (now (command .entry)) ⌝ }
     ensures { λ _. ⌜ now (command .exit) ≡ writeCommand (now (block .entry)) value (now (command .entry)) ⌝ }
 {

@@ -1,0 +1,110 @@
+-- Demand 3 over the public calls: from a valid block and a buffer with room for a command no write is refused, so the calls do what the rules
+-- do on blocks (`order`), and the buffer is told by the answers; two aligned logs then leave the same bytes and answer alike.
+use Prim.Native.Nat.{ℕ, _≤_}
+use native.Mathlib.Omega.{arith}
+use mathlib.Core.Path.{_≡_, refl, sym, ap, _∙_}
+use mathlib.Core.Bool.{Bool, true, false, cond}
+use mathlib.Core.List.{List, [], _∷_, _++_, map}
+use mathlib.Core.Option.{Option, none, some}
+use borrow.Author.Tests.{eqb-true, le-leb}
+use lib.Dec.{leb, eqb}
+use lib.ListN.{length, drop, length-append, length-drop}
+use Rattle.pulses.specs.Answer.{Answer, refused, given}
+use Rattle.transfer.specs.declared.pending.Landed.{Landed}
+use Rattle.layout.specs.Layout.{storeBytes, captureBytes}
+use Rattle.layout.specs.Block.{load, save}
+use Rattle.layout.specs.Valid.{valid, Valid}
+use Rattle.layout.proofs.Saved.{clauses}
+use Rattle.layout.proofs.Goods.{valid-good, good-valid}
+use Rattle.rules.specs.Write.{written, answer}
+use Rattle.rules.specs.Screen.{screened, landing}
+use Rattle.rules.proofs.Keeps.{WholeIf, Whole, answered-whole, good-written, good-screened}
+use Rattle.order.specs.Log.{Event, write, screen, accepts, Seen, seen, Aligned}
+use Rattle.order.specs.Log as log
+use Rattle.order.specs.Blocks.{Called, calledWrite, calledScreen, writtenBlock, seenBlock, calls}
+use Rattle.order.proofs.BlockOrder.{block-order}
+use Rattle.port.specs.Bytes.{handed}
+use Rattle.view.specs.Drawn.{leaves}
+use Rattle.view.specs.Refusal.{refusing}
+use Rattle.view.proofs.Refusals.{answers}
+use Rattle.unit.specs.Calls.{counted, writeAnswer, writeBlock, writeCommand, screenAnswer, screenBlock}
+use Rattle.unit.specs.Together.{Done, doneWrite, doneScreen, performed}
+
+-- ---- one call
+
+held : (b : List ℕ) → valid b ≡ true → Valid b
+held b v = record { long = clauses b v .long; tested = v }
+
+write-taken : (b : List ℕ) (v : ℕ) (buffer : List ℕ) → valid b ≡ true → storeBytes ≤ length buffer → writeAnswer b v buffer ≡ given (counted (answer (load b) v))
+unfolding writeAnswer
+write-taken b v buffer k h =
+    sym (answers b _ (held b k)) ∙ ap (λ t. cond t (given (counted (answer (load b) v))) (refused 6)) (le-leb storeBytes (length buffer) h)
+
+-- what a screen answers, of a valid block
+sightOf : Seen → Answer Landed
+sightOf (log.refused n) = refused n
+sightOf (log.took l) = given l
+
+screen-taken : (b x : List ℕ) → valid b ≡ true → screenAnswer b x ≡ sightOf (seen (load b .snes) x)
+unfolding screenAnswer seen accepts
+screen-taken b x k = sym (answers b _ (held b k)) ∙ go (eqb (length x) captureBytes)
+  where
+    go : (t : Bool) → cond t (given (landing (load b .snes))) (refused 3) ≡ sightOf (cond t (log.took (landing (load b .snes))) (log.refused 3))
+    go true = unfold sightOf in refl
+    go false = unfold sightOf in refl
+
+screen-left : (b x : List ℕ) → valid b ≡ true → screenBlock b x ≡ seenBlock b x
+unfolding screenBlock seenBlock screenAnswer accepts
+screen-left b x k = ap (λ a. leaves a (save (screened (load b) x)) b) (sym (answers b _ (held b k))) ∙ go (eqb (length x) captureBytes)
+  where
+    go : (t : Bool) → leaves (cond t (given (landing (load b .snes))) (refused 3)) (save (screened (load b) x)) b ≡ cond t (save (screened (load b) x)) b
+    go true = unfold leaves in refl
+    go false = unfold leaves in refl
+
+seen-valid : (b x : List ℕ) → valid b ≡ true → valid (seenBlock b x) ≡ true
+unfolding seenBlock
+seen-valid b x k = go (accepts x) refl
+  where
+    go : (t : Bool) → accepts x ≡ t → valid (cond t (save (screened (load b) x)) b) ≡ true
+    go true e = good-valid (screened (load b) x) (good-screened (load b) x (eqb-true (length x) captureBytes (unfold accepts in e)) (valid-good b k))
+    go false e = k
+
+written-valid : (b : List ℕ) (v : ℕ) → valid b ≡ true → valid (writtenBlock b v) ≡ true
+unfolding writtenBlock
+written-valid b v k = good-valid (written (load b) v) (good-written (load b) v (valid-good b k))
+
+-- a command leaves the buffer's length
+handed-long : (b : List ℕ) (v : ℕ) (buffer : List ℕ) → valid b ≡ true → storeBytes ≤ length buffer → length (handed (answer (load b) v) buffer) ≡ length buffer
+unfolding answer
+handed-long b v buffer k h = go _ (answered-whole (load b .port) v (valid-good b k .port))
+  where
+    go : (o : Option (List ℕ)) → WholeIf o → length (handed o buffer) ≡ length buffer
+    go none w = unfold handed in refl
+    go (some d) w = unfold handed in simp (length-append, length-drop) (omega (arith, w .most))
+
+-- ---- a whole log
+
+-- the buffer after some answers
+filled : List (Option (List ℕ)) → List ℕ → List ℕ
+filled [] buffer = buffer
+filled (a ∷ l) buffer = filled l (handed a buffer)
+
+doneOf : List ℕ → Called → Done
+doneOf buffer o =
+    record { block = o .block; buffer = filled (o .answers) buffer; answers = map (λ a. given (counted a)) (o .answers); sights = map sightOf (o .sights) }
+
+performed-calls : (b buffer : List ℕ) (l : List Event) → valid b ≡ true → storeBytes ≤ length buffer → performed b buffer l ≡ doneOf buffer (calls b l)
+unfolding performed calls doneOf filled doneWrite doneScreen calledWrite calledScreen writeBlock writeCommand leaves writtenBlock
+performed-calls b buffer [] k h = refl
+performed-calls b buffer (write v ∷ l) k h =
+    ap (λ a. doneWrite a (performed (leaves a (save (written (load b) v)) b) (leaves a (handed (answer (load b) v) buffer) buffer) l)) (write-taken b v buffer k h)
+    ∙ ap (doneWrite (given (counted (answer (load b) v))))
+    (performed-calls (writtenBlock b v) (handed (answer (load b) v) buffer) l (written-valid b v k) (omega (arith, handed-long b v buffer k h)))
+performed-calls b buffer (screen x ∷ l) k h =
+    (λ t. doneScreen (screen-taken b x k t) (performed (screen-left b x k t) buffer l))
+    ∙ ap (doneScreen (sightOf (seen (load b .snes) x))) (performed-calls (seenBlock b x) buffer l (seen-valid b x k) h)
+
+-- demand 3: a valid block, a buffer with room, and two logs with the same writes and the same screens in which each fixed write has equally
+-- many screens before it: the same block, the same buffer, and the same answer to each write and to each screen
+pub calls-order : (k buffer : List ℕ) → valid k ≡ true → storeBytes ≤ length buffer → (a b : List Event) → Aligned (load k) a b → performed k buffer a ≡ performed k buffer b
+calls-order k buffer v h a b e = performed-calls k buffer a v h ∙ ap (doneOf buffer) (block-order k v a b e) ∙ sym (performed-calls k buffer b v h)
