@@ -4,3 +4,4 @@ mod drawing;
 mod effects;
 mod leaves;
 mod packets;
+mod views;

@@ -10,6 +10,7 @@ use borrow.Author.Tests.{eq-eqb}
 use Rattle.bits.specs.Over.{part}
 use Rattle.bits.proofs.Overs.{length-part}
 use Rattle.screen.specs.Displayed.{displayed}
+use Rattle.picture.specs.Picture.{Parts, parts as lentParts}
 use Rattle.layout.specs.Layout.{blockBytes, sizes, liveAt, frozenAt, captureBytes}
 use Rattle.layout.specs.Block.{byte, header, parts, load}
 use Rattle.layout.proofs.Cut.{sum}
@@ -26,6 +27,13 @@ shown-long live frozen mode h k = rw (eq-eqb (length live) captureBytes h, eq-eq
     pick true = k
     pick false = h
 
+-- parts that are those of p, each by itself, are p
+pub whole : (p : Parts) {palettes preset attributes screen tiles map borders : List ℕ} {inForce : Bool} {mode : ℕ}
+    → palettes ≡ p .palettes → preset ≡ p .preset → inForce ≡ p .inForce → attributes ≡ p .attributes → screen ≡ p .screen → mode ≡ p .mode
+    → tiles ≡ p .tiles → map ≡ p .map → borders ≡ p .borders
+    → lentParts palettes preset inForce attributes screen mode tiles map borders ≡ p
+whole p a b c d e f g h k = λ i. lentParts (a i) (b i) (c i) (d i) (e i) (f i) (g i) (h i) (k i)
+
 module _ (b : List ℕ) (v : Valid b) where
   -- the k-th part, of its size
   pub lent : (k : ℕ) → k < 13 → sum (take k sizes) + getD sizes k 0 ≤ blockBytes
@@ -36,13 +44,13 @@ module _ (b : List ℕ) (v : Valid b) where
   pub header-lent : (j : ℕ) → j < 16 → byte j b ≡ getD (header (load b)) j 0
   header-lent j h = made-byte (made-of b (v .tested)) j h
 
-  -- the capture that is displayed
-  pub shown-lent : (r : List ℕ) → r ≡ displayed (part liveAt captureBytes b) (part frozenAt captureBytes b) (byte 0 b)
+  -- the capture that is displayed under the unit's mode
+  pub shown-lent : (r : List ℕ) (m : ℕ) → m ≡ partsOf (load b) .mode → r ≡ displayed (part liveAt captureBytes b) (part frozenAt captureBytes b) m
       → (r ≡ partsOf (load b) .screen) × (length r ≡ captureBytes)
   unfolding partsOf
-  shown-lent r e =
+  shown-lent r m h e =
       let live = lent 8 (lit< tt) (lit≤ tt) in
       let frozen = lent 9 (lit< tt) (lit≤ tt) in (
-        e ∙ (λ t. displayed (live .0 t) (frozen .0 t) (header-lent 0 (lit< tt) t)),
-        ap length e ∙ shown-long (part liveAt captureBytes b) (part frozenAt captureBytes b) (byte 0 b) (live .1) (frozen .1),
+        e ∙ (λ t. displayed (live .0 t) (frozen .0 t) (h t)),
+        ap length e ∙ shown-long (part liveAt captureBytes b) (part frozenAt captureBytes b) m (live .1) (frozen .1),
       )

@@ -48,7 +48,7 @@ pub fn shown(block: &[u8]) -> &[u8]
     screen::displayed_screen(
         &block[layout::LIVE..layout::FROZEN],
         &block[layout::FROZEN..layout::TILES],
-        block[layout::MASK],
+        mode(block),
     )
 }
 

@@ -1,10 +1,12 @@
 -- The parts lent are the unit's.
 use borrow.Author.Needs.{needs}
-use mathlib.Core.Path.{_∙_}
+use mathlib.Core.Path.{ap, _∙_}
 use mathlib.Core.List.{_++_}
 use lib.ListN.{drop}
-use Rattle.picture.specs.Picture.{parts, rowOf}
+use Rattle.picture.specs.Picture.{Parts, rowOf}
+use Rattle.layout.specs.Block.{load}
 use Rattle.view.specs.Drawn.{partsOf, rowDrawn}
+use Rattle.view.proofs.Lent.{whole}
 use Rattle.view.proofs.drawn.draw_row.Statement.{statement}
 use Rattle.view.proofs.drawn.draw_row.Tie as tie
 
@@ -42,7 +44,7 @@ same-length : tie.Need-same-length
 same-length c = search needs
 
 returns : tie.Need-returns
-unfolding partsOf rowDrawn
+unfolding rowDrawn
 returns c =
     let b = c .before .before .before .before in
     let w = b .before in
@@ -55,12 +57,9 @@ returns c =
     let p = s .before in
     let start = p .before .before .before in
     c .before .before .row .ensures
-    ∙ (λ i.
-    rowOf
-    (parts (p .palettes .ensures .0 i) (s .preset .ensures .0 i) (f .in-force .ensures i) (a .attributes .ensures .0 i)
-    (d .shown .ensures .0 i) (m .mode .ensures i) (t .tiles .ensures .0 i) (w .map .ensures .0 i) (b .borders .ensures .0 i))
-    (start .args .y)
-    ++ drop 256 (start .args .out .now))
+    ∙ ap (λ (q : Parts). rowOf q (start .args .y) ++ drop 256 (start .args .out .now))
+    (whole (partsOf (load (start .args .block .now))) (p .palettes .ensures .0) (s .preset .ensures .0) (f .in-force .ensures)
+    (a .attributes .ensures .0) (d .shown .ensures .0) (m .mode .ensures) (t .tiles .ensures .0) (w .map .ensures .0) (b .borders .ensures .0))
 
 pub draw-row-spec : {M : Type 1} → statement M
 draw-row-spec = tie.close (tie.spec palettes-requires preset-requires in-force-requires attributes-requires shown-requires mode-requires tiles-requires map-requires borders-requires row-requires same-length returns)

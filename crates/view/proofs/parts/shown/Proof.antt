@@ -22,14 +22,14 @@ part-displayed-screen-start-2 c = search needs
 part-displayed-screen-end-2 : tie.Need-part-displayed-screen-end-2
 part-displayed-screen-end-2 c = search needs
 
-shared-slice-read-displayed-screen : tie.Need-shared-slice-read-displayed-screen
-shared-slice-read-displayed-screen c = search needs
+mode-requires : tie.Need-mode-requires
+mode-requires c κs = search needs
 
 displayed-screen-requires : tie.Need-displayed-screen-requires
 displayed-screen-requires c κs = search needs
 
 returns : tie.Need-returns
-returns c = shown-lent (c .before .before .before .before .before .args .block .now) (c .before .before .before .before .before .pre) _ (c .displayed-screen .ensures)
+returns c = shown-lent (c .before .before .before .before .before .args .block .now) (c .before .before .before .before .before .pre) _ _ (c .before .mode .ensures) (c .displayed-screen .ensures)
 
 pub shown-spec : {M : Type 1} → statement M
-shown-spec = tie.close (tie.spec sub-displayed-screen part-displayed-screen-start part-displayed-screen-end sub-displayed-screen-2 part-displayed-screen-start-2 part-displayed-screen-end-2 shared-slice-read-displayed-screen displayed-screen-requires returns)
+shown-spec = tie.close (tie.spec sub-displayed-screen part-displayed-screen-start part-displayed-screen-end sub-displayed-screen-2 part-displayed-screen-start-2 part-displayed-screen-end-2 mode-requires displayed-screen-requires returns)
