@@ -3,4 +3,5 @@
 mod drawing;
 mod effects;
 mod leaves;
+mod logs;
 mod packets;
