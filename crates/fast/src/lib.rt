@@ -1,5 +1,5 @@
 // `run::run` with the same contract, word for word, and whole words of data pulses at once. Next door: the words (`gather`).
-// Measured beside the Rust on packets: a sixth of the plain run's time. The plain run stays as the definition in code.
+// Measured beside the Rust: on packets 0.05 of its time, where the plain run takes 0.32; on idle polling 0.67 and 0.37.
 ghost use mathlib.Core.Path.{_≡_};
 ghost use mathlib.Core.Bool.{true};
 ghost use Prim.Native.Nat.{_<_, _≤_};
@@ -91,7 +91,8 @@ pub fn run_fast(start: Receiver, lines: Lines, mask: u8, writes: &[u8], store: &
     }
 }
 
-// The whole of a packet's data pulses, as far as they are well formed, where the stage and the lines allow it.
+// Where the stage and the lines allow it, the whole of a packet's data pulses, as far as they are well formed. Kept small: it is
+// asked at every write, and must cost nothing where no packet is coming in.
 fn skip(rx: Receiver, lines: Lines, mask: u8, writes: &[u8], from: usize) -> Fed
     requires { ⌜ Sound (rxOf rx) × (((lines .index < 255) × (mask < 255)) × (from ≤ length (now writes))) ⌝ }
     ensures { λ r. ⌜ Passed mask from rx (lines .p15) (lines .both) (lines .index) (now (writes .entry)) r ⌝ }
@@ -103,9 +104,7 @@ fn skip(rx: Receiver, lines: Lines, mask: u8, writes: &[u8], from: usize) -> Fed
                 Stage::Idle => {}
                 Stage::Awaiting => {}
                 Stage::Receiving => {
-                    let f = feed(rx, lines.index, mask, writes, from);
-                    let half = f.rx;
-                    return feed(half, f.index, mask, writes, f.at);
+                    return feed_both(rx, lines.index, mask, writes, from);
                 }
             }
         }
@@ -115,6 +114,16 @@ fn skip(rx: Receiver, lines: Lines, mask: u8, writes: &[u8], from: usize) -> Fed
         index: lines.index,
         at: from,
     }
+}
+
+// One word of data pulses after the other.
+fn feed_both(rx: Receiver, index: u8, mask: u8, writes: &[u8], from: usize) -> Fed
+    requires { ⌜ ((rx .stage ≡ Receiving) × Sound (rxOf rx)) × (((index < 255) × (mask < 255)) × (from ≤ length (now writes))) ⌝ }
+    ensures { λ r. ⌜ Passed mask from rx true true index (now (writes .entry)) r ⌝ }
+{
+    let f = feed(rx, index, mask, writes, from);
+    let half = f.rx;
+    feed(half, f.index, mask, writes, f.at)
 }
 
 // While a packet is coming in and both lines are high: a word of data pulses at once, where a word begins.

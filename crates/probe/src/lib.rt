@@ -3,5 +3,6 @@
 mod drawing;
 mod effects;
 mod leaves;
+mod logs;
 mod packets;
 mod views;

@@ -43,6 +43,14 @@ within mask i x u (v ∷ vs) =
 pub at-most : (mask x : ℕ) (u : Port) (ws : List ℕ) → runs mask 0 x u ws .at ≤ length ws
 at-most mask x u ws = omega (arith, within mask 0 x u ws .to)
 
+pub at-least : (mask x : ℕ) (u : Port) (ws : List ℕ) → 0 < length ws → 0 < runs mask 0 x u ws .at
+unfolding runs
+at-least mask x u [] h = h
+at-least mask x u (v ∷ vs) h =
+    let y : ℕ = indexed x mask (u .p15) v in
+    within-on (packetsOf (stepAt u v .done)) 1 (1 + length vs) y (lined u v) (runs mask 1 y (lined u v) vs) (omega arith)
+    (within mask 1 y (lined u v) vs) .from
+
 -- ---- a run keeps what it requires
 
 ready-on : (mask n i x : ℕ) (u : Port) (rest : Ended) → Ready u x mask → Ready (rest .port) (rest .index) mask

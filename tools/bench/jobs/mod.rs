@@ -4,9 +4,10 @@ use crate::Job;
 
 mod picture;
 mod screen;
+mod writes;
 
 pub fn all() -> Vec<Job> {
-    [screen::jobs(), picture::jobs()]
+    [writes::jobs(), screen::jobs(), picture::jobs()]
         .into_iter()
         .flatten()
         .collect()

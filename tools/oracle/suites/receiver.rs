@@ -27,6 +27,8 @@ unsafe extern "C" {
         store: *mut u8,
         store_len: usize,
     ) -> u8;
+    // store of 112 bytes; fast is 0 or 1
+    fn probe_log(fast: u8, log: *const u8, len: usize, store: *mut u8, store_len: usize) -> usize;
     fn probe_encode(command: *const u8, len: usize, out: *mut u8, out_len: usize) -> usize;
     fn probe_verdict(command: *const u8, len: usize) -> u8;
 }
@@ -34,6 +36,7 @@ unsafe extern "C" {
 pub fn run(ctx: &mut Ctx) {
     sixes(ctx);
     streams(ctx);
+    logs(ctx);
     codes(ctx);
     refusals(ctx);
     verdicts(ctx);
@@ -163,6 +166,28 @@ fn streams(ctx: &mut Ctx) {
         let mut writes = generate::rest_of_command(&mut ctx.rng, &b);
         writes.extend(generate::writes(&mut ctx.rng, 3000));
         ctx.try_on((Block(b), List(writes)), |(b, writes)| follow(&b.0, &writes.0));
+    }
+}
+
+/// Whole logs by the plain run and by the fast one: as many commands as the Rust hears, and the same bit index after them.
+fn logs(ctx: &mut Ctx) {
+    for _ in ctx.rounds(100) {
+        let writes = generate::writes(&mut ctx.rng, 20_000);
+        ctx.try_on(List(writes), |writes| {
+            let log = &writes.0;
+            let mut rust = Oracle::post_boot();
+            let heard = log.iter().filter_map(|w| rust.write(*w)).count();
+            let want = heard << 8 | usize::from(rust.save()[BIT_INDEX]);
+            for fast in [0, 1] {
+                let mut store = [0; 112];
+                let told =
+                    unsafe { probe_log(fast, log.as_ptr(), log.len(), store.as_mut_ptr(), 112) };
+                if told != want {
+                    return Err(format!("fast {fast}: {told:X}, the Rust {want:X}"));
+                }
+            }
+            Ok(())
+        });
     }
 }
 
