@@ -15,4 +15,5 @@ suites! {
     receiver,
     commands,
     picture,
+    unit,
 }
