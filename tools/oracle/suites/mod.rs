@@ -16,4 +16,5 @@ suites! {
     commands,
     picture,
     views,
+    unit,
 }
