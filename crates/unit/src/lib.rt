@@ -66,7 +66,7 @@ pub fn write(block: &mut [u8], value: u8, command: &mut [u8]) -> u8
 }
 
 // The command of n packets at the front of the buffer, carried out.
-fn carry(block: &mut [u8], command: &[u8], n: u8)
+pub fn carry(block: &mut [u8], command: &[u8], n: u8)
     requires { ⌜ Valid (now block) × Whole (take (16 * n) (now command)) × (16 * n ≤ length (now command)) ⌝ }
     ensures { λ _. ⌜ now (block .exit) ≡ carriedBlock (decode (take (16 * n) (now (command .entry)))) (now (block .entry)) ⌝ }
 {
