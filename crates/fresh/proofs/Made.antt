@@ -11,13 +11,12 @@ use lib.Seq.{drop-drop, take-at, drop-at}
 use Rattle.bits.specs.Over.{over}
 use Rattle.receiver.specs.Receive.{idle, stageNumber}
 use Rattle.receiver.specs.Store.{bytesOf}
-use Rattle.layout.proofs.Cut.{sum}
 use Rattle.layout.proofs.Freshes.{fresh-good}
 use Rattle.layout.proofs.Goods.{length-save}
 use Rattle.layout.proofs.Made.{Made, made-put, made-set, made-save}
 use Rattle.layout.specs.Block.{flat, parts, isHeld, heldBytes, save}
 use Rattle.layout.specs.Fresh.{wordBytes, times, fresh, new, postBoot}
-use Rattle.layout.specs.Layout.{sizes}
+use Rattle.parts.specs.Parts.{sizes, sum}
 use Rattle.transfer.specs.Pending.{countdownOf, kindOf}
 
 abbrev zero-parts : List ℕ → List (List ℕ)

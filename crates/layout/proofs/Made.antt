@@ -9,12 +9,12 @@ use lib.ListN.{length, take, getD, set, length-set, List·getD-append}
 use lib.Seq.{set-append-left}
 use Rattle.bits.specs.Over.{part, over}
 use Rattle.bits.proofs.Overs.{over-within}
-use Rattle.layout.specs.Layout.{blockBytes, sizes}
+use Rattle.parts.specs.Parts.{blockBytes, sizes, sum}
 use Rattle.layout.specs.Block.{flat, parts, load, save}
 use Rattle.layout.specs.Valid.{valid}
 use Rattle.layout.specs.Sgb.{Sgb}
 use Rattle.layout.specs.Good.{Good}
-use Rattle.layout.proofs.Cut.{sum, get-part, put-part, put-sized, length-flat}
+use Rattle.layout.proofs.Cut.{get-part, put-part, put-sized, length-flat}
 use Rattle.layout.proofs.Saved.{clauses, save-load}
 use Rattle.layout.proofs.Goods.{sized, valid-good}
 

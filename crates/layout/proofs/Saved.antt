@@ -15,12 +15,12 @@ use Rattle.receiver.specs.Store.{bytesOf}
 use Rattle.bits.proofs.Overs.{length-part, getD-part}
 use Rattle.bits.proofs.Tests.{and-left, and-right}
 use Rattle.bits.proofs.Zeros.{zeros-at}
-use Rattle.layout.specs.Layout.{maskAt, indexAt, padsAt, p15At, bothAt, stageAt, expectedAt, receivedAt, bitsAt, presetOnAt, countdownAt, kindAt, frozenOnAt, spareAt, spareBytes, headerBytes, packetAt, packetBytes, storeAt, storeBytes, presetAt, presetBytes, palettesAt, palettesBytes, mapAt, mapBytes, systemAt, systemBytes, filesAt, filesBytes, liveAt, captureBytes, frozenAt, tilesAt, tilesBytes, borderMapAt, borderMapBytes, borderPalettesAt, borderPalettesBytes, sizes}
+use Rattle.parts.specs.Parts.{maskAt, indexAt, padsAt, p15At, bothAt, stageAt, expectedAt, receivedAt, bitsAt, presetOnAt, countdownAt, kindAt, frozenOnAt, spareAt, spareBytes, headerBytes, packetAt, packetBytes, storeAt, storeBytes, presetAt, presetBytes, palettesAt, palettesBytes, mapAt, mapBytes, systemAt, systemBytes, filesAt, filesBytes, liveAt, captureBytes, frozenAt, tilesAt, tilesBytes, borderMapAt, borderMapBytes, borderPalettesAt, borderPalettesBytes, sizes, sum}
 use Rattle.layout.specs.Block.{byte, isSet, valueOf, held, load, save, flat, parts, header, heldBytes}
 use Rattle.layout.specs.Valid.{v1, v2, v3, v4, v5, v6, maskAllows, validParts, valid}
 use Rattle.layout.specs.Sgb.{Sgb}
 use Rattle.layout.specs.Good.{Good}
-use Rattle.layout.proofs.Cut.{sum, cut, flat-cut, heads-eq, get-part}
+use Rattle.layout.proofs.Cut.{cut, flat-cut, heads-eq, get-part}
 use Rattle.layout.proofs.Fields.{flag-of-set, number-of-stage, bytes-of-value, held-number, held-bytes, pending-bytes}
 
 -- what a valid block is, by name

@@ -26,7 +26,7 @@ use Rattle.transfer.specs.declared.pending.Landed.{Landed}
 use Rattle.transfer.specs.declared.pending.Landed.the-variants as L
 use Rattle.transfer.specs.declared.pending.Transfer.the-variants.{Palettes, Attributes, BorderTiles, BorderMap}
 use Rattle.transfer.proofs.Parts.{page-long}
-use Rattle.layout.specs.Layout.{captureBytes}
+use Rattle.parts.specs.Parts.{captureBytes}
 use Rattle.layout.specs.Good.{Good, GoodPort, GoodGame, GoodSnes, GoodPending}
 use Rattle.layout.specs.Sgb.{Sgb, Game, Snes}
 use Rattle.commands.specs.Command as command

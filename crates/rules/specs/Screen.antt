@@ -10,7 +10,7 @@ use Rattle.transfer.specs.Landing.{palettesLanded, filesLanded, tilesLanded, ma
 use Rattle.transfer.specs.declared.pending.Landed.{Landed}
 use Rattle.transfer.specs.declared.pending.Landed.the-variants.{Nothing, Page}
 use Rattle.transfer.specs.declared.pending.Transfer.the-variants.{Palettes, Attributes, BorderTiles, BorderMap}
-use Rattle.layout.specs.Layout.{borderMapBytes}
+use Rattle.parts.specs.Parts.{borderMapBytes}
 use Rattle.layout.specs.Sgb.{Sgb, Snes}
 
 -- half of the tiles: 128 of 32 bytes

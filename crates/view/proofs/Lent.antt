@@ -11,9 +11,8 @@ use Rattle.bits.specs.Over.{part}
 use Rattle.bits.proofs.Overs.{length-part}
 use Rattle.screen.specs.Displayed.{displayed}
 use Rattle.picture.specs.Picture.{Parts, parts as lentParts}
-use Rattle.layout.specs.Layout.{blockBytes, sizes, liveAt, frozenAt, captureBytes}
+use Rattle.parts.specs.Parts.{blockBytes, sizes, sum, liveAt, frozenAt, captureBytes}
 use Rattle.layout.specs.Block.{byte, header, parts, load}
-use Rattle.layout.proofs.Cut.{sum}
 use Rattle.layout.proofs.Made.{made-of, made-get, made-byte}
 use Rattle.view.specs.Refusal.{Valid}
 use Rattle.view.specs.Drawn.{partsOf}

@@ -9,35 +9,35 @@ pub fn palettes(block: &[u8]) -> &[u8]
     requires { ⌜ Valid (now block) ⌝ }
     ensures { λ r. ⌜ (now r ≡ partsOf (load (now (block .entry))) .palettes) × (length (now r) ≡ 32) ⌝ }
 {
-    &block[layout::PALETTES..layout::MAP]
+    &block[parts::PALETTES..parts::MAP]
 }
 
 pub fn preset(block: &[u8]) -> &[u8]
     requires { ⌜ Valid (now block) ⌝ }
     ensures { λ r. ⌜ (now r ≡ partsOf (load (now (block .entry))) .preset) × (length (now r) ≡ 8) ⌝ }
 {
-    &block[layout::PRESET..layout::PALETTES]
+    &block[parts::PRESET..parts::PALETTES]
 }
 
 pub fn in_force(block: &[u8]) -> bool
     requires { ⌜ Valid (now block) ⌝ }
     ensures { λ r. ⌜ r ≡ partsOf (load (now (block .entry))) .inForce ⌝ }
 {
-    block[layout::PRESET_ON] == 1
+    block[parts::PRESET_ON] == 1
 }
 
 pub fn attributes(block: &[u8]) -> &[u8]
     requires { ⌜ Valid (now block) ⌝ }
     ensures { λ r. ⌜ (now r ≡ partsOf (load (now (block .entry))) .attributes) × (length (now r) ≡ 90) ⌝ }
 {
-    &block[layout::MAP..layout::SYSTEM]
+    &block[parts::MAP..parts::SYSTEM]
 }
 
 pub fn mode(block: &[u8]) -> u8
     requires { ⌜ Valid (now block) ⌝ }
     ensures { λ r. ⌜ r ≡ partsOf (load (now (block .entry))) .mode ⌝ }
 {
-    block[layout::MASK]
+    block[parts::MASK]
 }
 
 // The capture that is displayed.
@@ -46,8 +46,8 @@ pub fn shown(block: &[u8]) -> &[u8]
     ensures { λ r. ⌜ (now r ≡ partsOf (load (now (block .entry))) .screen) × (length (now r) ≡ 5760) ⌝ }
 {
     screen::displayed_screen(
-        &block[layout::LIVE..layout::FROZEN],
-        &block[layout::FROZEN..layout::TILES],
+        &block[parts::LIVE..parts::FROZEN],
+        &block[parts::FROZEN..parts::TILES],
         mode(block),
     )
 }
@@ -56,19 +56,19 @@ pub fn tiles(block: &[u8]) -> &[u8]
     requires { ⌜ Valid (now block) ⌝ }
     ensures { λ r. ⌜ (now r ≡ partsOf (load (now (block .entry))) .tiles) × (length (now r) ≡ 8192) ⌝ }
 {
-    &block[layout::TILES..layout::BORDER_MAP]
+    &block[parts::TILES..parts::BORDER_MAP]
 }
 
 pub fn map(block: &[u8]) -> &[u8]
     requires { ⌜ Valid (now block) ⌝ }
     ensures { λ r. ⌜ (now r ≡ partsOf (load (now (block .entry))) .map) × (length (now r) ≡ 1792) ⌝ }
 {
-    &block[layout::BORDER_MAP..layout::BORDER_PALETTES]
+    &block[parts::BORDER_MAP..parts::BORDER_PALETTES]
 }
 
 pub fn borders(block: &[u8]) -> &[u8]
     requires { ⌜ Valid (now block) ⌝ }
     ensures { λ r. ⌜ (now r ≡ partsOf (load (now (block .entry))) .borders) × (length (now r) ≡ 96) ⌝ }
 {
-    &block[layout::BORDER_PALETTES..layout::BLOCK]
+    &block[parts::BORDER_PALETTES..parts::BLOCK]
 }
