@@ -16,6 +16,7 @@ ghost use Rattle.carry.specs.Carrying.{Valid, carriedBlock, changedBlock
 use commands::Command;
 use commands::FixedCommand;
 use commands::PlainCommand;
+use parts::CAPTURE_BYTES;
 use parts::COUNTDOWN;
 use parts::FILES;
 use parts::FROZEN;
@@ -24,9 +25,11 @@ use parts::INDEX;
 use parts::KIND;
 use parts::LIVE;
 use parts::MAP;
+use parts::MAP_BYTES;
 use parts::MASK;
 use parts::PADS;
 use parts::PALETTES;
+use parts::PALETTES_BYTES;
 use parts::PRESET;
 use parts::PRESET_ON;
 use parts::SYSTEM;
@@ -104,7 +107,7 @@ fn freeze(block: &mut [u8])
     requires { ⌜ Valid (now block) ⌝ }
     ensures { λ _. ⌜ now (block .exit) ≡ carriedBlock (fixed freeze) (now (block .entry)) ⌝ }
 {
-    let mut shot = [0u8; 5760];
+    let mut shot = [0u8; CAPTURE_BYTES];
     bits::put(&mut shot, 0, &block[LIVE..FROZEN]);
     block[MASK] = 1;
     block[FROZEN_ON] = 1;
@@ -125,7 +128,7 @@ fn take_palettes(block: &mut [u8], d: &[u8])
     requires { ⌜ Valid (now block) × Whole (now d) ⌝ }
     ensures { λ _. ⌜ now (block .exit) ≡ changedBlock (λ s g. withPalettes (palette.palSet (now (d .entry)) (s .system)) g) (now (block .entry)) ⌝ }
 {
-    let mut chosen = [0u8; 32];
+    let mut chosen = [0u8; PALETTES_BYTES];
     palettes::pal_set(&mut chosen, &block[SYSTEM..FILES], d);
     end_preset(block);
     bits::put(block, PALETTES, &chosen);
@@ -136,7 +139,7 @@ fn pal_set_file(block: &mut [u8], flags: u8)
     requires { ⌜ Valid (now block) ⌝ }
     ensures { λ _. ⌜ now (block .exit) ≡ changedBlock (λ s g. withMap (palSetMap flags (s .files) (g .map)) g) (now (block .entry)) ⌝ }
 {
-    let mut map = [0u8; 90];
+    let mut map = [0u8; MAP_BYTES];
     bits::put(&mut map, 0, &block[MAP..SYSTEM]);
     commands::pal_set_map(&mut map, &block[FILES..LIVE], flags);
     bits::put(block, MAP, &map);
@@ -147,7 +150,7 @@ fn attr_set_file(block: &mut [u8], flags: u8)
     requires { ⌜ Valid (now block) ⌝ }
     ensures { λ _. ⌜ now (block .exit) ≡ changedBlock (λ s g. withMap (attrSetMap flags (s .files) (g .map)) g) (now (block .entry)) ⌝ }
 {
-    let mut map = [0u8; 90];
+    let mut map = [0u8; MAP_BYTES];
     bits::put(&mut map, 0, &block[MAP..SYSTEM]);
     commands::attr_set_map(&mut map, &block[FILES..LIVE], flags);
     bits::put(block, MAP, &map);

@@ -116,7 +116,7 @@ tilesAt = 19940
 abbrev pub tilesBytes : ℕ
 tilesBytes = 8192
 
--- tiles land by halves
+-- a half of the tiles, 128 of 32 bytes; they land by halves
 abbrev pub halfBytes : ℕ
 halfBytes = 4096
 
@@ -145,6 +145,7 @@ sizes =
     headerBytes ∷ packetBytes ∷ storeBytes ∷ presetBytes ∷ palettesBytes ∷ mapBytes ∷ systemBytes ∷ filesBytes ∷ captureBytes
     ∷ captureBytes ∷ tilesBytes ∷ borderMapBytes ∷ borderPalettesBytes ∷ []
 
+-- how long several parts are together
 abbrev pub sum : List ℕ → ℕ
 sum [] = 0
 sum (n ∷ ns) = n + sum ns

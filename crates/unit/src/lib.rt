@@ -40,7 +40,7 @@ pub fn write_joypad(block: &mut [u8], value: u8, command: &mut [u8]) -> Written
     if no != 0 {
         return Written::Refused(no);
     }
-    if command.len() < 112 {
+    if command.len() < parts::STORE_BYTES {
         return Written::Refused(6);
     }
     let n = write(block, value, command);
@@ -83,7 +83,7 @@ pub fn update_screen(block: &mut [u8], screen: &[u8]) -> Shown
     if no != 0 {
         return Shown::Refused(no);
     }
-    if screen.len() != 5760 {
+    if screen.len() != parts::CAPTURE_BYTES {
         return Shown::Refused(3);
     }
     Shown::Took(show::show(block, screen))
