@@ -9,6 +9,7 @@ use lib.Bits.{and-le-r}
 use lib.Dec.{lit<}
 use lib.ListN.{length, take, drop, replicate, getD, length-take, length-replicate}
 use lib.Seq.{take-at}
+use Rattle.parts.specs.Parts.{blockBytes, padsAt, storeAt, storeBytes}
 use Rattle.bits.specs.Over.{part, over}
 use Rattle.bits.proofs.Overs.{length-part, length-over}
 use Rattle.receiver.specs.Lines.{indexed}
@@ -91,14 +92,14 @@ fine u ws g = fine-from 0 u ws g
 
 -- ---- the code's run is the unit's
 
-pub length-settled : (n : ℕ) (s : List ℕ) → length s ≡ 112 → length (settled n s) ≡ 112
+pub length-settled : (n : ℕ) (s : List ℕ) → length s ≡ storeBytes → length (settled n s) ≡ storeBytes
 unfolding settled
 length-settled zero s h = h
-length-settled (suc n) s h = length-replicate {A = ℕ} 112 0
+length-settled (suc n) s h = length-replicate {A = ℕ} storeBytes 0
 
 -- what `run_on` has at hand after its run
 pub run-few : (mask x : ℕ) (r : Receiver) (l : Lines) (s ws : List ℕ) (q : Ran) (s′ : List ℕ) → Ready (portOf r l s) x mask
-    → endedOf q s′ ≡ runs mask 0 x (portOf r l s) ws → (q .packets < 8) × (length s′ ≡ 112)
+    → endedOf q s′ ≡ runs mask 0 x (portOf r l s) ws → (q .packets < 8) × (length s′ ≡ storeBytes)
 run-few mask x r l s ws q s′ k e = (
   subst⁻¹ (λ (d : Ended). d .packets < 8) e (complete mask 0 x (portOf r l s) ws k .few),
   ap (λ (d : Ended). length (d .port .store)) e ∙ ready-runs mask 0 x (portOf r l s) ws k .long,
@@ -117,37 +118,37 @@ module _ (b : List ℕ) (ok : Valid b) (r : Receiver) (l : Lines) (rx : rxOf r �
   good : Good (load b)
   good = valid-good b (ok .tested)
 
-  pub loaded-ready : Ready (portOf r l (part 32 112 b)) (l .index) (getD b 2 0)
+  pub loaded-ready : Ready (portOf r l (part storeAt storeBytes b)) (l .index) (getD b padsAt 0)
   unfolding load linesOf
   loaded-ready =
       let k : Ready (load b .port) (load b .game .index) (load b .game .pads) = good-ready (load b) good in
-      subst⁻¹ (λ (m : Lines). Ready (record { p15 = m .p15; both = m .both; rx = rxOf r; store = part 32 112 b }) (m .index) (getD b 2 0)) lines
-      (subst⁻¹ (λ (x : Rx). Ready (record { p15 = load b .port .p15; both = load b .port .both; rx = x; store = part 32 112 b }) (load b .game .index) (getD b 2 0)) rx k)
+      subst⁻¹ (λ (m : Lines). Ready (record { p15 = m .p15; both = m .both; rx = rxOf r; store = part storeAt storeBytes b }) (m .index) (getD b padsAt 0)) lines
+      (subst⁻¹ (λ (x : Rx). Ready (record { p15 = load b .port .p15; both = load b .port .both; rx = x; store = part storeAt storeBytes b }) (load b .game .index) (getD b padsAt 0)) rx k)
 
-  pub loaded-runs : (ws : List ℕ) → runs (getD b 2 0) 0 (l .index) (portOf r l (part 32 112 b)) ws ≡ ranTo (load b) ws
+  pub loaded-runs : (ws : List ℕ) → runs (getD b padsAt 0) 0 (l .index) (portOf r l (part storeAt storeBytes b)) ws ≡ ranTo (load b) ws
   unfolding load linesOf ranTo
-  loaded-runs ws = λ t. runs (getD b 2 0) 0 (lines t .index) (record { p15 = lines t .p15; both = lines t .both; rx = rx t; store = part 32 112 b }) ws
+  loaded-runs ws = λ t. runs (getD b padsAt 0) 0 (lines t .index) (record { p15 = lines t .p15; both = lines t .both; rx = rx t; store = part storeAt storeBytes b }) ws
 
-  module _ (ws : List ℕ) (q : Ran) (s : List ℕ) (ended : endedOf q s ≡ handedOver (runs (getD b 2 0) 0 (l .index) (portOf r l (part 32 112 b)) ws)) where
+  module _ (ws : List ℕ) (q : Ran) (s : List ℕ) (ended : endedOf q s ≡ handedOver (runs (getD b padsAt 0) 0 (l .index) (portOf r l (part storeAt storeBytes b)) ws)) where
     abbrev e : Ended
     e = ranTo (load b) ws
 
     is : endedOf q s ≡ handedOver e
     is = ended ∙ ap handedOver (loaded-runs ws)
 
-    store-long : length s ≡ 112
+    store-long : length s ≡ storeBytes
     unfolding handedOver
     store-long =
         ap (λ (d : Ended). length (d .port .store)) is
         ∙ length-settled (e .packets) (e .port .store) (unfold ranTo in ready-runs (load b .game .pads) 0 (load b .game .index) (load b .port) ws (good-ready (load b) good) .long)
 
-    pub put-long : length (over 32 112 s b) ≡ 30020
-    put-long = length-over 32 112 s b (omega (arith, ok .long)) store-long ∙ ok .long
+    pub put-long : length (over storeAt storeBytes s b) ≡ blockBytes
+    put-long = length-over storeAt storeBytes s b (omega (arith, ok .long)) store-long ∙ ok .long
 
-    pub receiver-long : (m : List ℕ) → m ≡ putReceiver (rxOf (q .rx)) (over 32 112 s b) → length m ≡ 30020
-    receiver-long m h = ap length h ∙ length-receiver (rxOf (q .rx)) (over 32 112 s b) put-long
+    pub receiver-long : (m : List ℕ) → m ≡ putReceiver (rxOf (q .rx)) (over storeAt storeBytes s b) → length m ≡ blockBytes
+    receiver-long m h = ap length h ∙ length-receiver (rxOf (q .rx)) (over storeAt storeBytes s b) put-long
 
-    pub ran : (m m′ : List ℕ) → m ≡ putReceiver (rxOf (q .rx)) (over 32 112 s b) → m′ ≡ putLines (q .lines) m
+    pub ran : (m m′ : List ℕ) → m ≡ putReceiver (rxOf (q .rx)) (over storeAt storeBytes s b) → m′ ≡ putLines (q .lines) m
         → (q .at ≡ e .at) × ((q .packets ≡ e .packets) × (m′ ≡ save (ranUnit (load b) e)))
     unfolding handedOver ranUnit
     ran m m′ h k = (
@@ -161,11 +162,11 @@ module _ (b : List ℕ) (ok : Valid b) (r : Receiver) (l : Lines) (rx : rxOf r �
 
 -- ---- a run's command
 
-packets-told : (d : Ended) → d .packets < 8 → length (d .port .store) ≡ 112 → d .packets ≡ packetsIn (commandOf d)
+packets-told : (d : Ended) → d .packets < 8 → length (d .port .store) ≡ storeBytes → d .packets ≡ packetsIn (commandOf d)
 unfolding commandOf taken packetsIn
 packets-told d few long = go (d .packets) (d .port .store) few long
   where
-    go : (n : ℕ) (s : List ℕ) → n < 8 → length s ≡ 112 → n ≡ packetsIn (taken n s)
+    go : (n : ℕ) (s : List ℕ) → n < 8 → length s ≡ storeBytes → n ≡ packetsIn (taken n s)
     go zero s few long = refl
     go (suc n) s few long = omega (arith, length-take (16 * suc n) s)
 

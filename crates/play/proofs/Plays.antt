@@ -5,6 +5,7 @@ use mathlib.Core.Option.{Option, none, some}
 use Prim.Native.Nat.{ℕ, zero, suc, _+_, _-_, _*_, _<_, _≤_}
 use native.Mathlib.Omega.{arith}
 use lib.ListN.{length, take, drop, replicate}
+use Rattle.parts.specs.Parts.{storeBytes}
 use Rattle.bits.specs.Over.{over}
 use Rattle.port.specs.Bytes.{handed}
 use Rattle.receiver.specs.Lines.{pulseOf, indexed}
@@ -46,14 +47,14 @@ module _ (u : Sgb) (v : ℕ) where
 
   pub one-written : (n : ℕ) → done ≡ suc n
       → (answer u v ≡ some (take (16 * suc n) (filedAt (u .port) v)))
-      × (written u v ≡ carried (meant (some (take (16 * suc n) (filedAt (u .port) v)))) (with-store (replicate 112 0)))
+      × (written u v ≡ carried (meant (some (take (16 * suc n) (filedAt (u .port) v)))) (with-store (replicate storeBytes 0)))
   unfolding answer answered written carries stepped advanced wrote lined
   one-written n e =
       let t = one-told (stepAt (u .port) v .done) (filedAt (u .port) v) n e in
       (t .0, ap (λ (o : Option (List ℕ)). carried (meant o) (stepped u v)) (t .0) ∙ ap (λ (s : List ℕ). carried (meant (some (take (16 * suc n) (filedAt (u .port) v)))) (with-store s)) (t .1))
 
 -- where a command came: the port with its store empty again is the stepped unit's
-pub one-stepped : (u : Sgb) (v n : ℕ) → packetsOf (stepAt (u .port) v .done) ≡ suc n → with-store u v (replicate 112 0) ≡ stepped u v
+pub one-stepped : (u : Sgb) (v n : ℕ) → packetsOf (stepAt (u .port) v .done) ≡ suc n → with-store u v (replicate storeBytes 0) ≡ stepped u v
 unfolding stepped advanced wrote lined
 one-stepped u v n e = ap (with-store u v) (sym (one-told (stepAt (u .port) v .done) (filedAt (u .port) v) n e .1))
 
@@ -64,7 +65,7 @@ unfolding settled taken handed
 none-over zero s buffer e = (refl, refl)
 none-over (suc n) s buffer e = absurd (omega arith)
 
-pub one-over : (n k m : ℕ) (s buffer : List ℕ) → (n ≡ 0 → ⊥) → n < 8 → length s ≡ 112 → k ≡ 16 * n → m ≡ 112
+pub one-over : (n k m : ℕ) (s buffer : List ℕ) → (n ≡ 0 → ⊥) → n < 8 → length s ≡ storeBytes → k ≡ 16 * n → m ≡ storeBytes
     → (replicate m 0 ≡ settled n s) × (over 0 (length (take k s)) (take k s) buffer ≡ handed (taken n s) buffer)
 unfolding settled taken handed
 one-over zero k m s buffer h few l e f = absurd (h refl)
@@ -99,7 +100,7 @@ module _ (u : Sgb) (v i : ℕ) (vs : List ℕ) (after : Ended) where
       let t = one-written u v n e in
       let k : 1 ≡ suc i - i = omega arith in
       let c : List ℕ = take (16 * suc n) (filedAt (u .port) v) in
-      (λ j. stop (t .0 j) (t .1 j) (played (t .1 j) vs)) ∙ ap (λ (m : ℕ). mk (carried (meant (some c)) (with-store u v (replicate 112 0))) m (some c)) k
+      (λ j. stop (t .0 j) (t .1 j) (played (t .1 j) vs)) ∙ ap (λ (m : ℕ). mk (carried (meant (some c)) (with-store u v (replicate storeBytes 0))) m (some c)) k
 
 plays-from : (i : ℕ) (u : Sgb) (ws : List ℕ) → Ready (u .port) (u .game .index) (u .game .pads)
     → played u ws ≡ by u i (runs (u .game .pads) i (u .game .index) (u .port) ws)

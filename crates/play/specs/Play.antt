@@ -4,7 +4,7 @@ use mathlib.Core.List.{List, [], _∷_}
 use mathlib.Core.Option.{Option, none, some}
 use lib.ListN.{take, replicate}
 use Rattle.run.specs.Run.{Ended, runs}
-use Rattle.layout.specs.Layout.{storeBytes}
+use Rattle.parts.specs.Parts.{storeBytes}
 use Rattle.layout.specs.Sgb.{Sgb}
 use Rattle.rules.specs.Carry.{withPads}
 use Rattle.rules.specs.Write.{written, answer}

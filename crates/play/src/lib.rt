@@ -3,7 +3,7 @@
 ghost use mathlib.Core.Path.{_≡_};
 ghost use Prim.Native.Nat.{_≤_, _<_};
 ghost use lib.ListN.{length};
-ghost use Rattle.layout.specs.Layout.{storeBytes};
+ghost use Rattle.parts.specs.Parts.{storeBytes};
 ghost use Rattle.layout.specs.Block.{load, save};
 ghost use Rattle.layout.specs.Valid.{Valid};
 ghost use Rattle.port.specs.Bytes.{handed, packetsIn};
@@ -50,13 +50,13 @@ fn play_port(block: &mut [u8], writes: &[u8], command: &mut [u8]) -> Played
 {
     let rx = load_receiver(block);
     let lines = load_lines(block);
-    let mask = block[layout::PADS];
+    let mask = block[parts::PADS];
     let r = run_on(
         rx,
         lines,
         mask,
         writes,
-        &mut block[layout::STORE..layout::PRESET],
+        &mut block[parts::STORE..parts::PRESET],
         command,
     );
     let next = r.rx;

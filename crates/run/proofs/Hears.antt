@@ -7,6 +7,7 @@ use Prim.Native.Nat.{ℕ, zero, suc, _+_, _-_, _*_, _<_, _≤_}
 use native.Mathlib.Omega.{arith}
 use lib.Dec.{lit<}
 use lib.ListN.{length, take, drop, replicate}
+use Rattle.parts.specs.Parts.{storeBytes}
 use Rattle.receiver.specs.declared.Done.{Done}
 use Rattle.receiver.specs.declared.Done.the-variants.{Nothing, Packet, Command}
 use Rattle.receiver.specs.Lines.{pulseOf, indexed}
@@ -106,7 +107,7 @@ none-told (Packet n) s f e = (refl, refl)
 none-told (Command n) s f e = absurd (omega arith)
 
 pub one-told : (d : Done) (s : List ℕ) (n : ℕ) → packetsOf d ≡ suc n
-    → (answerOf d s ≡ some (take (16 * suc n) s)) × (emptied d s ≡ replicate 112 0)
+    → (answerOf d s ≡ some (take (16 * suc n) s)) × (emptied d s ≡ replicate storeBytes 0)
 unfolding packetsOf answerOf emptied
 one-told Nothing s n e = absurd (omega arith)
 one-told (Packet m) s n e = absurd (omega arith)

@@ -1,10 +1,10 @@
--- It is part 5 of the block.
+-- It is part 12 of the block.
 use borrow.Author.Needs.{needs}
 use lib.Dec.{lit<, lit≤}
 use Rattle.view.specs.Drawn.{partsOf}
 use Rattle.view.proofs.Lent.{lent}
-use Rattle.view.proofs.parts.attributes.Statement.{statement}
-use Rattle.view.proofs.parts.attributes.Tie as tie
+use Rattle.view.proofs.of_block.borders.Statement.{statement}
+use Rattle.view.proofs.of_block.borders.Tie as tie
 
 sub-result : tie.Need-sub-result
 sub-result c = search needs
@@ -17,7 +17,7 @@ part-result-end c = search needs
 
 returns : tie.Need-returns
 unfolding partsOf
-returns c = lent (c .before .args .block .now) (c .before .pre) 5 (lit< tt) (lit≤ tt)
+returns c = lent (c .before .args .block .now) (c .before .pre) 12 (lit< tt) (lit≤ tt)
 
-pub attributes-spec : {M : Type 1} → statement M
-attributes-spec = tie.close (tie.spec sub-result part-result-start part-result-end returns)
+pub borders-spec : {M : Type 1} → statement M
+borders-spec = tie.close (tie.spec sub-result part-result-start part-result-end returns)

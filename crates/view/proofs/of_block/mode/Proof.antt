@@ -3,8 +3,8 @@ use borrow.Author.Needs.{needs}
 use lib.Dec.{lit<}
 use Rattle.view.specs.Drawn.{partsOf}
 use Rattle.view.proofs.Lent.{header-lent}
-use Rattle.view.proofs.parts.mode.Statement.{statement}
-use Rattle.view.proofs.parts.mode.Tie as tie
+use Rattle.view.proofs.of_block.mode.Statement.{statement}
+use Rattle.view.proofs.of_block.mode.Tie as tie
 
 shared-slice-read-result : tie.Need-shared-slice-read-result
 shared-slice-read-result c = search needs

@@ -5,8 +5,8 @@ use lib.Dec.{lit<}
 use Rattle.layout.specs.Block.{isSet}
 use Rattle.view.specs.Drawn.{partsOf}
 use Rattle.view.proofs.Lent.{header-lent}
-use Rattle.view.proofs.parts.in_force.Statement.{statement}
-use Rattle.view.proofs.parts.in_force.Tie as tie
+use Rattle.view.proofs.of_block.in_force.Statement.{statement}
+use Rattle.view.proofs.of_block.in_force.Tie as tie
 
 shared-slice-read-result : tie.Need-shared-slice-read-result
 shared-slice-read-result c = search needs

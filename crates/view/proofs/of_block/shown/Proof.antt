@@ -1,8 +1,8 @@
 -- Both captures have their size, so the one that the mode says is shown.
 use borrow.Author.Needs.{needs}
 use Rattle.view.proofs.Lent.{shown-lent}
-use Rattle.view.proofs.parts.shown.Statement.{statement}
-use Rattle.view.proofs.parts.shown.Tie as tie
+use Rattle.view.proofs.of_block.shown.Statement.{statement}
+use Rattle.view.proofs.of_block.shown.Tie as tie
 
 sub-displayed-screen : tie.Need-sub-displayed-screen
 sub-displayed-screen c = search needs

@@ -1,5 +1,6 @@
--- Where everything stands in the unit block. Document 01, The unit block. No other file has these numbers.
-use Prim.Native.Nat.{ℕ}
+-- Where everything stands in the unit block and how long it is. Document 01, The unit block. The code's names for the same are in
+-- src/lib.rt; no file outside this crate has these numbers, which tools/numbers sees to.
+use Prim.Native.Nat.{ℕ, _+_}
 use mathlib.Core.List.{List, [], _∷_}
 
 abbrev pub blockBytes : ℕ
@@ -115,6 +116,13 @@ tilesAt = 19940
 abbrev pub tilesBytes : ℕ
 tilesBytes = 8192
 
+-- a half of the tiles, 128 of 32 bytes; they land by halves
+abbrev pub halfBytes : ℕ
+halfBytes = 4096
+
+abbrev pub upperTilesAt : ℕ
+upperTilesAt = 24036
+
 abbrev pub borderMapAt : ℕ
 borderMapAt = 28132
 
@@ -127,8 +135,17 @@ borderPalettesAt = 29924
 abbrev pub borderPalettesBytes : ℕ
 borderPalettesBytes = 96
 
+-- the border's map and its palettes land together
+abbrev pub borderBytes : ℕ
+borderBytes = borderMapBytes + borderPalettesBytes
+
 -- the sizes in order; that each part starts where the one before it ends is proved in proofs/Starts
 abbrev pub sizes : List ℕ
 sizes =
     headerBytes ∷ packetBytes ∷ storeBytes ∷ presetBytes ∷ palettesBytes ∷ mapBytes ∷ systemBytes ∷ filesBytes ∷ captureBytes
     ∷ captureBytes ∷ tilesBytes ∷ borderMapBytes ∷ borderPalettesBytes ∷ []
+
+-- how long several parts are together
+abbrev pub sum : List ℕ → ℕ
+sum [] = 0
+sum (n ∷ ns) = n + sum ns
