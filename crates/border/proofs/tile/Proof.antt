@@ -1,4 +1,5 @@
 -- The tests are the definition's; the part from at to at + 32 has 32 bytes.
+use mathlib.Core.Path.{refl}
 use native.Mathlib.Nat.{add-sub-cancel-left}
 use borrow.Author.Tests.{eq-eqb, ne-eqb, le-leb, lt-leb}
 use borrow.Author.Needs.{needs}
@@ -11,14 +12,14 @@ slice-aggregate-result c = search needs
 
 returns : tie.Need-returns
 unfolding tilePart
-returns c = simp (ne-eqb _ _ (c .before .if1 .taken))
+returns c = simp (ne-eqb _ 8192 (c .before .if1 .taken))
 
 slice-aggregate-result-2 : tie.Need-slice-aggregate-result-2
 slice-aggregate-result-2 c = search needs
 
 returns-2 : tie.Need-returns-2
 unfolding tilePart
-returns-2 c = simp (eq-eqb _ _ (c .before .before .if1 .left), lt-leb _ _ (c .before .if2 .taken))
+returns-2 c = simp (eq-eqb _ 8192 (c .before .before .if1 .left), lt-leb _ 255 (c .before .if2 .taken))
 
 mul-at : tie.Need-mul-at
 mul-at c = search needs
@@ -37,7 +38,7 @@ part-result-end c = search needs
 
 returns-3 : tie.Need-returns-3
 unfolding tilePart
-returns-3 c = simp (eq-eqb _ _ (c .before .before .if1 .left), le-leb _ _ (c .before .if2 .left), add-sub-cancel-left)
+returns-3 c = simp (eq-eqb _ 8192 (c .before .before .if1 .left), le-leb _ 255 (c .before .if2 .left), add-sub-cancel-left) refl
 
 pub tile-spec : {M : Type 1} → statement M
 tile-spec =

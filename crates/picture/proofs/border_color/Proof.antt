@@ -9,7 +9,7 @@ use Rattle.picture.proofs.border_color.Tie as tie
 
 returns : tie.Need-returns
 unfolding borderColor
-returns c = rw (eq-eqb _ _ (c .if1 .taken))
+returns c = rw (eq-eqb _ 0 (c .if1 .taken))
 
 mul-at : tie.Need-mul-at
 mul-at c = search needs
@@ -28,7 +28,7 @@ word-requires c κs = search needs
 
 returns-2 : tie.Need-returns-2
 unfolding borderColor wordAt
-returns-2 c = c .word .ensures ∙ rw (ne-eqb _ _ (c .before .before .before .if1 .left))
+returns-2 c = c .word .ensures ∙ rw (ne-eqb _ 0 (c .before .before .before .if1 .left))
 
 pub border-color-spec : {M : Type 1} → statement M
 border-color-spec =

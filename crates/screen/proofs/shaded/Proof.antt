@@ -11,14 +11,14 @@ backdrop-requires c κs = search needs
 
 returns : tie.Need-returns
 unfolding shadedOf
-returns c = c .backdrop .ensures ∙ rw (eq-eqb _ _ (c .before .if1 .taken))
+returns c = c .backdrop .ensures ∙ rw (eq-eqb _ 0 (c .before .if1 .taken))
 
 color-requires : tie.Need-color-requires
 color-requires c κs = search needs
 
 returns-2 : tie.Need-returns-2
 unfolding shadedOf
-returns-2 c = c .color .ensures ∙ rw (ne-eqb _ _ (c .before .if1 .left))
+returns-2 c = c .color .ensures ∙ rw (ne-eqb _ 0 (c .before .if1 .left))
 
 pub shaded-spec : {M : Type 1} → statement M
 shaded-spec = tie.close (tie.spec backdrop-requires returns color-requires returns-2)

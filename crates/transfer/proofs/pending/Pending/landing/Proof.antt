@@ -13,7 +13,7 @@ enum-known-self c = search needs
 
 returns : tie.Need-returns
 unfolding landing
-returns c = rw (c .before .before .self .given .1, le-leb _ _ (c .if1 .taken))
+returns c = rw (c .before .before .self .given .1, le-leb _ 1 (c .if1 .taken))
 
 returns-2 : tie.Need-returns-2
 unfolding landing
@@ -21,7 +21,7 @@ returns-2 c = rw (c .enum-told .given .1)
 
 returns-3 : tie.Need-returns-3
 unfolding landing
-returns-3 c = rw (c .before .before .self .given .1, lt-leb _ _ (c .if1 .left))
+returns-3 c = rw (c .before .before .self .given .1, lt-leb _ 1 (c .if1 .left))
 
 pub landing-spec : {M : Type 1} → statement M
 landing-spec = tie.close (tie.spec enum-told enum-known-self returns returns-2 returns-3)
