@@ -1,6 +1,6 @@
 //! The Rust driven by a log: `log replay` and `log plate` read one on standard input and print what the port's program of
-//! that name must print (document 01, "Pulses, verdict, log"). The unit is the Rust's; the reading of the log's lines is
-//! written here from document 01 alone and shares nothing with the port.
+//! that name must print (document 01, "Pulses, verdict, log"); `log ppm` prints the picture as a Portable Pixmap. The unit is
+//! the Rust's; the reading of the log's lines is written here from document 01 alone and shares nothing with the port.
 
 // the oracle stands ready for more than a log asks of it
 #![allow(dead_code, unused_imports)]
@@ -26,8 +26,9 @@ fn main() {
     let print = match words.iter().map(String::as_str).collect::<Vec<_>>()[..] {
         ["replay"] => replay,
         ["plate"] => plate,
+        ["ppm"] => ppm,
         _ => {
-            eprintln!("usage: log replay|plate <LOG");
+            eprintln!("usage: log replay|plate|ppm <LOG");
             exit(2);
         }
     };
@@ -59,21 +60,41 @@ fn replay(input: &mut dyn BufRead, out: &mut dyn Write) -> io::Result<()> {
 
 /// The picture after the whole log, or the first refused line alone.
 fn plate(input: &mut dyn BufRead, out: &mut dyn Write) -> io::Result<()> {
-    let mut unit = Oracle::post_boot();
-    let mut number = 0u64;
-    while let Some(line) = next_line(input)? {
-        number += 1;
-        match event(&line) {
-            None => return writeln!(out, "line {number}: 7"),
-            Some(Event::Screen(screen)) => drop(unit.screen(&screen)),
-            Some(Event::Writes(writes)) => writes.into_iter().for_each(|w| drop(unit.write(w))),
-        }
-    }
-    for row in unit.picture().chunks(256) {
+    let words = match picture(input)? {
+        Ok(words) => words,
+        Err(number) => return writeln!(out, "line {number}: 7"),
+    };
+    for row in words.chunks(256) {
         let words: String = row.iter().map(|word| format!("{word:04X}")).collect();
         writeln!(out, "{words}")?;
     }
     Ok(())
+}
+
+/// The picture in eight bits a part, by the Rust's `to_rgb8`.
+fn ppm(input: &mut dyn BufRead, out: &mut dyn Write) -> io::Result<()> {
+    let refused = |number| io::Error::other(format!("line {number}: 7"));
+    let words = picture(input)?.map_err(refused)?;
+    write!(out, "P6\n256 224\n255\n")?;
+    for word in words {
+        out.write_all(&oracle::rgb8(word).to_be_bytes()[1..])?;
+    }
+    Ok(())
+}
+
+/// The words of the picture after the whole log, or the number of the first refused line.
+fn picture(input: &mut dyn BufRead) -> io::Result<Result<Vec<u16>, u64>> {
+    let mut unit = Oracle::post_boot();
+    let mut number = 0;
+    while let Some(line) = next_line(input)? {
+        number += 1;
+        match event(&line) {
+            None => return Ok(Err(number)),
+            Some(Event::Screen(screen)) => drop(unit.screen(&screen)),
+            Some(Event::Writes(writes)) => writes.into_iter().for_each(|w| drop(unit.write(w))),
+        }
+    }
+    Ok(Ok(unit.picture()))
 }
 
 /// The next line without its LF, or nothing at the input's end. A last line may lack its LF if it is not empty. Of a line
