@@ -54,7 +54,7 @@ fn refusal_of(digits: &[u8], out: &mut [u8], at: usize) -> usize
 pub fn row_line(words: &[u16], out: &mut [u8])
     requires { ⌜ length (now words) ≡ 256 ⌝ }
     requires { ⌜ 1025 ≤ length (now out) ⌝ }
-    ensures { λ _. ⌜ now (out .exit) ≡ over 0 1025 (rowLine (now (words .entry))) (now (out .entry)) ⌝ }
+    ensures { λ _. ⌜ now (out .exit) ≡ over 0 (length (rowLine (now (words .entry)))) (rowLine (now (words .entry))) (now (out .entry)) ⌝ }
 {
     let mut i: usize = 0;
     while i < 256 {
