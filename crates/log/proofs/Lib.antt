@@ -1,0 +1,7 @@
+pub mod Left
+pub mod Takes
+pub mod Tells
+pub mod Keeps
+pub mod Fills
+pub mod Coded
+pub mod Whole

@@ -1,0 +1,50 @@
+-- The whole: where a reading begins, all of a log is to be told; where it ends, nothing is. So fills, one after the other over the chunks of
+-- an input, tell what the log tells, however it is cut.
+use mathlib.Core.Path.{_≡_, refl, sym, ap, ap₂, _∙_}
+use mathlib.Core.Bool.{Bool, true, false, cond}
+use mathlib.Core.List.{List, [], _∷_, _++_, map, append-assoc, append-nil}
+use mathlib.Core.Option.{Option, none, some}
+use Prim.Native.Nat.{ℕ, zero, suc, _+_, _-_, _*_, _≤_, _<_}
+use native.Mathlib.Omega.{arith}
+use borrow.Author.Tests.{ltb-true, ltb-false, lt-ltb, le-ltb}
+use lib.Dec.{ltb}
+use lib.ListN.{length, take, drop, length-take, drop-of-length-le}
+use Rattle.layout.specs.Block.{load, save}
+use Rattle.layout.specs.Fresh.{fresh, postBoot}
+use Rattle.layout.specs.Sgb.{Sgb}
+use Rattle.layout.proofs.Goods.{good-back}
+use Rattle.layout.proofs.Freshes.{fresh-good}
+use Rattle.line.specs.Line.{lineDigits, Meaning, meaningOf}
+use Rattle.line.specs.Lines.{markedFrom, meaningMarked, lastMarked, linesOf}
+use Rattle.line.specs.Split.{heldAs, nothing}
+use Rattle.log.specs.Events.{Event, writeEvents, afterWrites, eventsFrom, afterLines, meanings, eventsOf, unitAfter}
+use Rattle.log.specs.Steps.{Desk, begun, pending, left, lastLf, toTell, toEnd, Fit, Filling, fill}
+use Rattle.log.specs.declared.Reading.{Reading}
+use Rattle.line.proofs.Marked.{marked-meanings}
+use Rattle.log.proofs.Takes.{no-pending}
+
+-- ---- the beginning
+
+module _ (d : Desk) (boot : d .block ≡ postBoot) (input : List ℕ) where
+  fresh-unit : load (d .block) ≡ fresh true
+  unfolding postBoot
+  fresh-unit = ap load boot ∙ good-back (fresh true) (fresh-good true)
+
+  pub begins : toTell begun d input ≡ eventsOf input
+  unfolding toTell pending heldAs writeEvents afterWrites eventsOf meanings
+  begins = ap₂ (λ (u : Sgb) (ms : List Meaning). eventsFrom u 1 ms) fresh-unit (marked-meanings input)
+
+  pub begins-end : toEnd begun d input ≡ unitAfter input
+  unfolding toEnd pending heldAs afterWrites unitAfter meanings
+  begins-end = ap₂ afterLines fresh-unit (marked-meanings input)
+
+-- ---- the end
+
+-- nothing is pending and nothing held: all is told
+pub all-told : (r : Reading) (d : Desk) → r .upto ≤ r .from → heldAs (r .held) (d .line) ≡ some [] → toTell r d [] ≡ []
+unfolding toTell writeEvents eventsFrom markedFrom lastMarked
+all-told r d h e = rw (no-pending r (d .bytes) h, e)
+
+pub all-done : (r : Reading) (d : Desk) → r .upto ≤ r .from → heldAs (r .held) (d .line) ≡ some [] → toEnd r d [] ≡ load (d .block)
+unfolding toEnd afterWrites afterLines markedFrom lastMarked
+all-done r d h e = rw (no-pending r (d .bytes) h, e)

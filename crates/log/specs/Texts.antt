@@ -1,0 +1,49 @@
+-- What each program prints for a log, from its bytes to the bytes printed. Document 01, Pulses, verdict, log.
+use Prim.Native.Nat.{ℕ, zero, suc, _+_}
+use mathlib.Core.List.{List, [], _∷_, _++_}
+use lib.ListN.{take}
+use Rattle.layout.specs.Block.{save}
+use Rattle.layout.specs.Sgb.{Sgb}
+use Rattle.picture.specs.Picture.{rowOf}
+use Rattle.view.specs.Drawn.{partsOf}
+use Rattle.text.specs.Text.{hexLine, refusalText, rowLine}
+use Rattle.log.specs.Events.{Event, completed, refusal, eventsOf, unitAfter}
+
+-- ---- `replay`: "each completed command in upper-case hex, `line N: 7` .. for a refused line .., and last the block's first 13 bytes"
+
+unfoldable pub shownOne : Event → List ℕ
+shownOne (completed c) = hexLine c
+shownOne (refusal k) = refusalText k
+
+unfoldable pub shown : List Event → List ℕ
+shown [] = []
+shown (e ∷ es) = shownOne e ++ shown es
+
+-- the block's bytes 0 to 12
+abbrev pub headBytes : ℕ
+headBytes = 13
+
+unfoldable pub headLine : List ℕ → List ℕ
+headLine block = hexLine (take headBytes block)
+
+unfoldable pub replayText : List ℕ → List ℕ
+replayText input = shown (eventsOf input) ++ headLine (save (unitAfter input))
+
+-- ---- `plate`: "224 lines of 256 words ..; at a refused line it prints only that refusal and ends"
+
+-- n rows from row y on
+unfoldable pub rowLines : ℕ → ℕ → Sgb → List ℕ
+rowLines zero y u = []
+rowLines (suc n) y u = rowLine (rowOf (partsOf u) y) ++ rowLines n (y + 1) u
+
+unfoldable pub pictureLines : Sgb → List ℕ
+pictureLines u = rowLines 224 0 u
+
+-- the first refusal, or the picture
+unfoldable pub refusedOr : List Event → List ℕ → List ℕ
+refusedOr [] picture = picture
+refusedOr (completed c ∷ es) picture = refusedOr es picture
+refusedOr (refusal k ∷ es) picture = refusalText k
+
+unfoldable pub plateText : List ℕ → List ℕ
+plateText input = refusedOr (eventsOf input) (pictureLines (unitAfter input))

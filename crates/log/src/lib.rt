@@ -1,0 +1,187 @@
+// A log read in chunks of any size: its lines, what they do to the unit, and the text of it. Nothing here reads or writes: the caller
+// feeds chunks and writes out the text that each call gives. Document 01, Pulses, verdict, log. The meaning of the whole is in specs/Events
+// and specs/Texts, the steps are in specs/Steps, and that the steps tell the whole is in proofs/.
+ghost use mathlib.Core.Path.{_≡_};
+ghost use Prim.Native.Nat.{_+_, _*_, _≤_, _<_};
+ghost use lib.Dec.{ltb};
+ghost use lib.ListN.{length, take};
+ghost use mathlib.Core.List.{[]};
+ghost use Rattle.parts.specs.Parts.{storeBytes};
+ghost use Rattle.layout.specs.Valid.{Valid};
+ghost use Rattle.line.specs.Line.{screenBytes};
+ghost use Rattle.text.specs.Text.{hexLine};
+ghost use Rattle.log.specs.Steps.{begun, left, fill, desk, toldOf, ranOn, answerOf, goesOn, stepRoom, ToldFits, toldBy, lastLf, nextLine};
+ghost use Rattle.log.specs.Texts.{shown};
+ghost use Rattle.bits.specs.Over.{over};
+use line::lines::Held;
+use play::play;
+use text::command_line;
+use text::refusal_line;
+
+// The room that the longest text of a step needs: a command of 112 bytes has 225.
+const STEP_ROOM: usize = 256;
+
+// Where a reading stands: the line that is held so far, the number of the next line to end, and the part of the decoded writes that is
+// still to be played.
+pub struct Reading {
+    pub held: Held,
+    pub number: u64,
+    pub from: usize,
+    pub upto: usize,
+}
+
+// What a step has to tell: nothing, a command of so many packets that stands in the buffer, or that the line before the next is refused.
+pub enum Told {
+    Nothing,
+    Command(u8),
+    Refused,
+}
+
+// The reading after a step, how far the chunk is used up, and what is told.
+pub struct Step {
+    pub reading: Reading,
+    pub at: usize,
+    pub told: Told,
+}
+
+// The reading after steps, how far the chunk is used up, the bytes of text, and whether the last step refused a line.
+pub struct Filled {
+    pub reading: Reading,
+    pub at: usize,
+    pub size: usize,
+    pub refused: bool,
+}
+
+// At line 1, with nothing held.
+pub fn begin() -> Reading
+    ensures { λ r. ⌜ r ≡ begun ⌝ }
+{
+    Reading {
+        held: Held {
+            size: 0,
+            long: false,
+        },
+        number: 1,
+        from: 0,
+        upto: 0,
+    }
+}
+
+// Whether the chunk or the present line holds more.
+pub fn is_left(reading: Reading, size: usize, at: usize) -> bool
+    ensures { λ r. ⌜ r ≡ ltb 0 (left reading size at) ⌝ }
+{
+    if at < size {
+        return true;
+    }
+    reading.from < reading.upto
+}
+
+fn told_of(packets: u8) -> Told
+    ensures { λ r. ⌜ r ≡ toldOf packets ⌝ }
+{
+    if packets == 0 {
+        return Told::Nothing;
+    }
+    Told::Command(packets)
+}
+
+// The decoded writes, up to the next command.
+fn play_on(reading: Reading, block: &mut [u8], bytes: &[u8], command: &mut [u8], at: usize) -> Step
+    requires { ⌜ Valid (now block) × ((length (now bytes) ≡ screenBytes) × (storeBytes ≤ length (now command))) ⌝ }
+    requires { ⌜ (reading .from ≤ reading .upto) × (reading .upto ≤ screenBytes) ⌝ }
+    ensures { λ r. ⌜ r ≡ answerOf (ranOn reading (desk (now (block .entry)) [] (now (bytes .entry)) (now (command .entry))) at) ⌝ }
+    ensures { λ _. ⌜ now (block .exit) ≡ ranOn reading (desk (now (block .entry)) [] (now (bytes .entry)) (now (command .entry))) at .desk .block ⌝ }
+    ensures { λ _. ⌜ now (command .exit) ≡ ranOn reading (desk (now (block .entry)) [] (now (bytes .entry)) (now (command .entry))) at .desk .command ⌝ }
+{
+    let from = reading.from;
+    let upto = reading.upto;
+    let p = play(block, &bytes[from..upto], command);
+    let held = reading.held;
+    Step {
+        reading: Reading {
+            held: held,
+            number: reading.number,
+            from: from + p.at,
+            upto: upto,
+        },
+        at: at,
+        told: told_of(p.packets),
+    }
+}
+
+// Whether a fill goes on: up to a refused line, while the next text has room, and while anything is left.
+fn goes_on(now: Filled, size: usize, room: usize) -> bool
+    requires { ⌜ now .size ≤ room ⌝ }
+    ensures { λ r. ⌜ r ≡ goesOn (now .refused) (now .size) (now .reading) (now .at) size room ⌝ }
+{
+    if now.refused {
+        return false;
+    }
+    if room - now.size < STEP_ROOM {
+        return false;
+    }
+    let reading = now.reading;
+    is_left(reading, size, now.at)
+}
+
+// The text of what a step tells, from `at` on. Answers its length.
+fn tell(step: Step, command: &[u8], out: &mut [u8], at: usize) -> usize
+    requires { ⌜ ToldFits (step .told) × ((storeBytes ≤ length (now command)) × (1 ≤ step .reading .number)) ⌝ }
+    requires { ⌜ at + stepRoom ≤ length (now out) ⌝ }
+    ensures { λ r. ⌜ r ≡ length (shown (toldBy (step .told) (step .reading) (now (command .entry)))) ⌝ }
+    ensures { λ r. ⌜ r ≤ stepRoom ⌝ }
+    ensures { λ _. ⌜ now (out .exit) ≡ over at (length (shown (toldBy (step .told) (step .reading) (now (command .entry))))) (shown (toldBy (step .told) (step .reading) (now (command .entry)))) (now (out .entry)) ⌝ }
+{
+    let told = step.told;
+    match told {
+        Told::Nothing => 0,
+        Told::Command(n) => tell_command(n, command, out, at),
+        Told::Refused => refusal_line(step.reading.number - 1, out, at),
+    }
+}
+
+fn tell_command(n: u8, command: &[u8], out: &mut [u8], at: usize) -> usize
+    requires { ⌜ (n < 8) × (storeBytes ≤ length (now command)) ⌝ }
+    requires { ⌜ at + stepRoom ≤ length (now out) ⌝ }
+    ensures { λ r. ⌜ r ≡ length (hexLine (take (16 * n) (now (command .entry)))) ⌝ }
+    ensures { λ r. ⌜ r ≤ stepRoom ⌝ }
+    ensures { λ _. ⌜ now (out .exit) ≡ over at (length (hexLine (take (16 * n) (now (command .entry))))) (hexLine (take (16 * n) (now (command .entry)))) (now (out .entry)) ⌝ }
+{
+    let end = 16 * bits::wide(n);
+    command_line(&command[0..end], out, at)
+}
+
+// How many bytes of LF are to be fed when the input has ended: one for a last line that lacks it.
+pub fn last_lf(reading: Reading) -> usize
+    ensures { λ r. ⌜ r ≡ length (lastLf reading) ⌝ }
+{
+    let held = reading.held;
+    if held.long {
+        return 1;
+    }
+    if 0 < held.size {
+        return 1;
+    }
+    0
+}
+
+// The reading behind a line that has ended, with n writes to play.
+fn behind(reading: Reading, at: usize, n: usize, told: Told) -> Step
+    requires { ⌜ reading .number < 18446744073709551615 ⌝ }
+    ensures { λ r. ⌜ r ≡ record { reading = nextLine reading n; at = at; told = told } ⌝ }
+{
+    Step {
+        reading: Reading {
+            held: Held {
+                size: 0,
+                long: false,
+            },
+            number: reading.number + 1,
+            from: 0,
+            upto: n,
+        },
+        at: at,
+        told: told,
+    }
+}
