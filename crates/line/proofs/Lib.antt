@@ -1,0 +1,4 @@
+pub mod Form
+pub mod Marked
+pub mod Splitting
+pub mod Told

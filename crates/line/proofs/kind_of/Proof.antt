@@ -1,0 +1,103 @@
+-- `line::kind_of` meets its contract: its tests are those of the form, in their order.
+use Prim.Native.Nat.{_+_, _*_, _<_, _≤_}
+use mathlib.Core.Bool.{true}
+use mathlib.Core.Path.{_≡_, ap, sym, _∙_}
+use native.Mathlib.Omega.{arith}
+use borrow.Author.Tests.{not-true, not-false}
+use lib.ListN.{length}
+use Rattle.hex.specs.Hex.{spells}
+use Rattle.hex.proofs.Reading.{digit-at}
+use Rattle.line.specs.Calls.{kindTold}
+use Rattle.line.proofs.Form.{kindByte, kind-is, too-short, too-long, not-spelled, some-writes, a-screen, short-screen, other-kind}
+use Rattle.line.proofs.kind_of.Statement.{statement}
+use Rattle.line.proofs.kind_of.Tie as tie
+
+returns : tie.Need-returns
+unfolding kindTold
+returns c = sym (ap kindTold (too-short (c .before .before .args .text .now) (c .if1 .taken)))
+
+returns-2 : tie.Need-returns-2
+unfolding kindTold
+returns-2 c = sym (ap kindTold (too-long (c .before .before .before .args .text .now) (omega arith)))
+
+spells-requires : tie.Need-spells-requires
+spells-requires c κs = tt
+
+returns-3 : tie.Need-returns-3
+unfolding kindTold
+returns-3 c = sym (ap kindTold (not-spelled (c .before .before .before .before .before .args .text .now) (sym (c .before .spells .ensures) ∙ not-true _ (c .if3 .taken))))
+
+shared-slice-read-digit : tie.Need-shared-slice-read-digit
+shared-slice-read-digit c = omega arith
+
+digit-requires : tie.Need-digit-requires
+digit-requires c κs = tt
+
+mul-kind : tie.Need-mul-kind
+mul-kind c =
+    let s = c .before .before .before .before .before .before .before .args .text .now in
+    let good : spells s ≡ true = sym (c .before .before .before .spells .ensures) ∙ not-false _ (c .before .before .if3 .left) in
+    omega (arith, digit-at s good 0 (omega arith))
+
+shared-slice-read-digit-2 : tie.Need-shared-slice-read-digit-2
+shared-slice-read-digit-2 c = omega arith
+
+digit-requires-2 : tie.Need-digit-requires-2
+digit-requires-2 c κs = tt
+
+add-kind : tie.Need-add-kind
+add-kind c =
+    let s = c .before .before .before .before .before .before .before .before .before .args .text .now in
+    let good : spells s ≡ true = sym (c .before .before .before .before .before .spells .ensures) ∙ not-false _ (c .before .before .before .before .if3 .left) in
+    omega (arith, digit-at s good 0 (omega arith), digit-at s good 1 (omega arith))
+
+returns-4 : tie.Need-returns-4
+unfolding kindTold
+returns-4 c =
+    let s = c .before .before .before .before .before .before .before .before .before .before .args .text .now in
+    let good : spells s ≡ true = sym (c .before .before .before .before .before .before .spells .ensures) ∙ not-false _ (c .before .before .before .before .before .if3 .left) in
+    let k : kindByte s ≡ c .before .before .before .digit .result * 16 + c .before .digit2 .result = kind-is s _ _ (c .before .before .before .digit .ensures) (c .before .digit2 .ensures) in
+    sym (ap kindTold (some-writes s good (omega arith) (k ∙ c .if4 .taken) (omega arith)))
+
+returns-5 : tie.Need-returns-5
+unfolding kindTold
+returns-5 c =
+    let s = c .before .before .before .before .before .before .before .before .before .before .before .args .text .now in
+    let good : spells s ≡ true = sym (c .before .before .before .before .before .before .before .spells .ensures) ∙ not-false _ (c .before .before .before .before .before .before .if3 .left) in
+    let k : kindByte s ≡ c .before .before .before .before .digit .result * 16 + c .before .before .digit2 .result = kind-is s _ _ (c .before .before .before .before .digit .ensures) (c .before .before .digit2 .ensures) in
+    sym (ap kindTold (other-kind s good (omega arith) (λ z. c .before .if4 .left (sym k ∙ z)) (λ z. c .if5 .taken (sym k ∙ z))))
+
+returns-6 : tie.Need-returns-6
+unfolding kindTold
+returns-6 c =
+    let s = c .before .before .before .before .before .before .before .before .before .before .before .before .args .text .now in
+    let good : spells s ≡ true = sym (c .before .before .before .before .before .before .before .before .spells .ensures) ∙ not-false _ (c .before .before .before .before .before .before .before .if3 .left) in
+    let k : kindByte s ≡ c .before .before .before .before .before .digit .result * 16 + c .before .before .before .digit2 .result = kind-is s _ _ (c .before .before .before .before .before .digit .ensures) (c .before .before .before .digit2 .ensures) in
+    sym (ap kindTold (a-screen s good (omega arith) (k ∙ c .before .if5 .left) (c .if6 .taken)))
+
+returns-7 : tie.Need-returns-7
+unfolding kindTold
+returns-7 c =
+    let s = c .before .before .before .before .before .before .before .before .before .before .before .before .args .text .now in
+    let good : spells s ≡ true = sym (c .before .before .before .before .before .before .before .before .spells .ensures) ∙ not-false _ (c .before .before .before .before .before .before .before .if3 .left) in
+    let k : kindByte s ≡ c .before .before .before .before .before .digit .result * 16 + c .before .before .before .digit2 .result = kind-is s _ _ (c .before .before .before .before .before .digit .ensures) (c .before .before .before .digit2 .ensures) in
+    sym (ap kindTold (short-screen s good (omega arith) (k ∙ c .before .if5 .left) (c .if6 .left)))
+
+pub kind-of-spec : {M : Type 1} → statement M
+kind-of-spec =
+    tie.close
+    (tie.spec
+    returns
+    returns-2
+    spells-requires
+    returns-3
+    shared-slice-read-digit
+    digit-requires
+    mul-kind
+    shared-slice-read-digit-2
+    digit-requires-2
+    add-kind
+    returns-4
+    returns-5
+    returns-6
+    returns-7)
