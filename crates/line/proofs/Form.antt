@@ -10,7 +10,8 @@ use lib.Dec.{leb, eqb}
 use lib.ListN.{length, getD, take, drop}
 use Rattle.hex.specs.Hex.{nibble, bytesOf, present, spells, spelled}
 use Rattle.hex.proofs.Reading.{two, spells-one, spelled-some, length-spelled}
-use Rattle.line.specs.Line.{screenBytes, lineDigits, Meaning, writes, screen, refused, byKind, byBytes, meaningOf}
+use Rattle.parts.specs.Parts.{captureBytes}
+use Rattle.line.specs.Line.{lineDigits, Meaning, writes, screen, refused, byKind, byBytes, meaningOf}
 use Rattle.line.specs.Calls.{kindTold}
 
 -- a line's first byte, of a line that spells bytes
@@ -63,20 +64,20 @@ module _ (s : List ℕ) (e : spells s ≡ true) (h : 2 ≤ length s) where
   pub some-writes : kindByte s ≡ 1 → length s ≤ lineDigits → meaningOf s ≡ writes (spelled (drop 2 s))
   unfolding byKind
   some-writes k l =
-      let d : length (spelled (drop 2 s)) ≤ screenBytes = omega (arith, rest-count) in
+      let d : length (spelled (drop 2 s)) ≤ captureBytes = omega (arith, rest-count) in
       means-kind ∙ rw (eq-eqb _ _ k, le-leb _ _ d)
 
   pub a-screen : kindByte s ≡ 2 → length s ≡ lineDigits → meaningOf s ≡ screen (spelled (drop 2 s))
   unfolding byKind
   a-screen k l =
-      let d : length (spelled (drop 2 s)) ≡ screenBytes = omega (arith, rest-count) in
+      let d : length (spelled (drop 2 s)) ≡ captureBytes = omega (arith, rest-count) in
       let one : kindByte s ≡ 1 → ⊥ = λ z. omega arith in
       means-kind ∙ rw (ne-eqb _ _ one, eq-eqb _ _ k, eq-eqb _ _ d)
 
   pub short-screen : kindByte s ≡ 2 → (length s ≡ lineDigits → ⊥) → meaningOf s ≡ refused
   unfolding byKind
   short-screen k l =
-      let d : length (spelled (drop 2 s)) ≡ screenBytes → ⊥ = λ z. l (omega (arith, rest-count)) in
+      let d : length (spelled (drop 2 s)) ≡ captureBytes → ⊥ = λ z. l (omega (arith, rest-count)) in
       let one : kindByte s ≡ 1 → ⊥ = λ z. omega arith in
       means-kind ∙ rw (ne-eqb _ _ one, eq-eqb _ _ k, ne-eqb _ _ d)
 
@@ -86,10 +87,10 @@ module _ (s : List ℕ) (e : spells s ≡ true) (h : 2 ≤ length s) where
 
 -- ---- too many bytes mean nothing
 
-kind-long : (b : List ℕ) → 1 + screenBytes < length b → byKind b ≡ refused
+kind-long : (b : List ℕ) → 1 + captureBytes < length b → byKind b ≡ refused
 unfolding byKind
 kind-long [] h = refl
-kind-long (k ∷ d) h = rw (lt-leb (length d) screenBytes (omega arith), ne-eqb (length d) screenBytes (λ e. omega arith)) (go (eqb k 1) (eqb k 2)) where
+kind-long (k ∷ d) h = rw (lt-leb (length d) captureBytes (omega arith), ne-eqb (length d) captureBytes (λ e. omega arith)) (go (eqb k 1) (eqb k 2)) where
   go : (t u : Bool) → cond t refused (cond u refused refused) ≡ refused
   go true u = refl
   go false true = refl
@@ -111,8 +112,8 @@ pub record Body (s : List ℕ) : Type 0 where
 
 pub data Read (s : List ℕ) : Type 0 where
   isRefused : meaningOf s ≡ refused → Read s
-  isWrites : Body s → length (spelled (drop 2 s)) ≤ screenBytes → meaningOf s ≡ writes (spelled (drop 2 s)) → Read s
-  isScreen : Body s → length (spelled (drop 2 s)) ≡ screenBytes → meaningOf s ≡ screen (spelled (drop 2 s)) → Read s
+  isWrites : Body s → length (spelled (drop 2 s)) ≤ captureBytes → meaningOf s ≡ writes (spelled (drop 2 s)) → Read s
+  isScreen : Body s → length (spelled (drop 2 s)) ≡ captureBytes → meaningOf s ≡ screen (spelled (drop 2 s)) → Read s
 
 read-kind : (s : List ℕ) → spells s ≡ true → 2 ≤ length s → Read s
 read-kind s e h = go (eqb (kindByte s) 1) (leb (length s) lineDigits) (eqb (kindByte s) 2) (eqb (length s) lineDigits) refl refl refl refl where

@@ -12,7 +12,8 @@ use Rattle.bits.specs.Answer.{Answer, given}
 use Rattle.bits.specs.Answer.{refused as refusal}
 use Rattle.bits.specs.Over.{over}
 use Rattle.hex.specs.Hex.{spells, spelled}
-use Rattle.line.specs.Line.{screenBytes, Meaning, writes, screen, refused, meaningOf}
+use Rattle.parts.specs.Parts.{captureBytes}
+use Rattle.line.specs.Line.{Meaning, writes, screen, refused, meaningOf}
 use Rattle.line.specs.Calls.{Content, writesOf, oneScreen, lineTold, meaningTold, filled, lineAnswer, lineBytes, kindTold}
 use Rattle.line.specs.declared.Line.{Line}
 use Rattle.line.specs.declared.Line.the-variants as L
@@ -37,10 +38,10 @@ module _ (s : List ℕ) (k : ℕ) (e : k ≡ kindTold (meaningOf s)) where
     go (isWrites b l m) = b
     go (isScreen b l m) = b
 
-  pub kind-fits : (k ≡ 0 → ⊥) → length (spelled (drop 2 s)) ≤ screenBytes
+  pub kind-fits : (k ≡ 0 → ⊥) → length (spelled (drop 2 s)) ≤ captureBytes
   unfolding kindTold
   kind-fits z = go (read s) where
-    go : Read s → length (spelled (drop 2 s)) ≤ screenBytes
+    go : Read s → length (spelled (drop 2 s)) ≤ captureBytes
     go (isRefused m) = absurd (z (e ∙ ap kindTold m))
     go (isWrites b l m) = l
     go (isScreen b l m) = omega arith
@@ -68,11 +69,11 @@ past-kind s = take-all (length s - 2) (drop 2 s) (simp length-drop (omega arith)
 -- ---- what `parse` answers and leaves
 
 module _ (s b : List ℕ) where
-  pub answers-short : length b < screenBytes → (lineTold (L.Refused 6) ≡ lineAnswer s b) × (b ≡ lineBytes s b)
+  pub answers-short : length b < captureBytes → (lineTold (L.Refused 6) ≡ lineAnswer s b) × (b ≡ lineBytes s b)
   unfolding lineTold lineAnswer lineBytes
   answers-short h = (rw (lt-leb _ _ h), rw (lt-leb _ _ h))
 
-  module _ (h : screenBytes ≤ length b) where
+  module _ (h : captureBytes ≤ length b) where
     room : (m : Meaning) → meaningOf s ≡ m → (lineAnswer s b ≡ meaningTold m) × (lineBytes s b ≡ filled m b)
     unfolding lineAnswer lineBytes
     room m e = (rw (le-leb _ _ h, e), rw (le-leb _ _ h, e))
@@ -97,11 +98,11 @@ module _ (s b : List ℕ) where
 front : (d b : List ℕ) (n : ℕ) → n ≡ length d → take n (over 0 (length d) d b) ≡ d
 front d b n e = take-at d (drop (length d) b) n (sym e)
 
-module _ (s b m : List ℕ) (h : screenBytes ≤ length b) (left : m ≡ lineBytes s b) where
-  pub parse-writes : (n : ℕ) → lineTold (L.Writes n) ≡ lineAnswer s b → (meaningOf s ≡ writes (take n m)) × (n ≤ screenBytes)
+module _ (s b m : List ℕ) (h : captureBytes ≤ length b) (left : m ≡ lineBytes s b) where
+  pub parse-writes : (n : ℕ) → lineTold (L.Writes n) ≡ lineAnswer s b → (meaningOf s ≡ writes (take n m)) × (n ≤ captureBytes)
   unfolding lineTold meaningTold filled
   parse-writes n t = go (read s) where
-    go : Read s → (meaningOf s ≡ writes (take n m)) × (n ≤ screenBytes)
+    go : Read s → (meaningOf s ≡ writes (take n m)) × (n ≤ captureBytes)
     go (isRefused e) = let w : given (writesOf n) ≡ refusal 7 = t ∙ room s b h refused e .0 in let z : _≡_ {A = ℕ} 0 1 = cc in absurd (omega arith)
     go (isWrites y l e) =
         let d : List ℕ = spelled (drop 2 s) in
@@ -111,16 +112,16 @@ module _ (s b m : List ℕ) (h : screenBytes ≤ length b) (left : m ≡ lineByt
     go (isScreen y l e) =
         let w : given (writesOf n) ≡ given oneScreen = t ∙ room s b h (screen (spelled (drop 2 s))) e .0 in let z : _≡_ {A = ℕ} 0 1 = cc in absurd (omega arith)
 
-  pub parse-screen : lineTold L.Screen ≡ lineAnswer s b → meaningOf s ≡ screen (take screenBytes m)
+  pub parse-screen : lineTold L.Screen ≡ lineAnswer s b → meaningOf s ≡ screen (take captureBytes m)
   unfolding lineTold meaningTold filled
   parse-screen t = go (read s) where
-    go : Read s → meaningOf s ≡ screen (take screenBytes m)
+    go : Read s → meaningOf s ≡ screen (take captureBytes m)
     go (isRefused e) = let w : given oneScreen ≡ refusal 7 = t ∙ room s b h refused e .0 in let z : _≡_ {A = ℕ} 0 1 = cc in absurd (omega arith)
     go (isWrites y l e) =
         let w : given oneScreen ≡ given (writesOf (length (spelled (drop 2 s)))) = t ∙ room s b h (writes (spelled (drop 2 s))) e .0 in let z : _≡_ {A = ℕ} 0 1 = cc in absurd (omega arith)
     go (isScreen y l e) =
         let d : List ℕ = spelled (drop 2 s) in
-        e ∙ ap screen (sym (ap (take screenBytes) (left ∙ room s b h (screen d) e .1) ∙ front d b screenBytes (sym l)))
+        e ∙ ap screen (sym (ap (take captureBytes) (left ∙ room s b h (screen d) e .1) ∙ front d b captureBytes (sym l)))
 
   pub parse-refused : (n : ℕ) → lineTold (L.Refused n) ≡ lineAnswer s b → (meaningOf s ≡ refused) × (n ≡ 7) × (m ≡ b)
   unfolding lineTold meaningTold filled

@@ -8,7 +8,8 @@ use lib.ListN.{length}
 use Rattle.bits.specs.Answer.{Answer, given}
 use Rattle.bits.specs.Answer.{refused as refusal}
 use Rattle.bits.specs.Over.{over}
-use Rattle.line.specs.Line.{screenBytes, Meaning, writes, screen, refused, meaningOf}
+use Rattle.parts.specs.Parts.{captureBytes}
+use Rattle.line.specs.Line.{Meaning, writes, screen, refused, meaningOf}
 use Rattle.line.specs.declared.Line.{Line}
 use Rattle.line.specs.declared.Line.the-variants as L
 
@@ -41,7 +42,7 @@ filled (screen d) bytes = over 0 (length d) d bytes
 filled refused bytes = bytes
 
 unfoldable pub lineAnswer : List ℕ → List ℕ → Answer Content
-lineAnswer text bytes = cond (leb screenBytes (length bytes)) (meaningTold (meaningOf text)) (refusal 6)
+lineAnswer text bytes = cond (leb captureBytes (length bytes)) (meaningTold (meaningOf text)) (refusal 6)
 
 unfoldable pub lineBytes : List ℕ → List ℕ → List ℕ
-lineBytes text bytes = cond (leb screenBytes (length bytes)) (filled (meaningOf text) bytes) bytes
+lineBytes text bytes = cond (leb captureBytes (length bytes)) (filled (meaningOf text) bytes) bytes

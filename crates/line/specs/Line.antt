@@ -6,14 +6,12 @@ use mathlib.Core.Option.{Option, none, some}
 use mathlib.Core.List.{List, [], _∷_}
 use lib.Dec.{leb, eqb}
 use lib.ListN.{length}
+use Rattle.parts.specs.Parts.{captureBytes}
 use Rattle.hex.specs.Hex.{bytesOf}
 
--- the bytes of a screen, which are also the most writes of a line; and the digits of the longest line that means something
-abbrev pub screenBytes : ℕ
-screenBytes = 5760
-
+-- the digits of the longest line that means something: a line has at most as many writes as a screen has bytes
 abbrev pub lineDigits : ℕ
-lineDigits = 2 * (1 + screenBytes)
+lineDigits = 2 * (1 + captureBytes)
 
 pub data Meaning : Type 0 where
   writes : List ℕ → Meaning
@@ -24,8 +22,8 @@ pub data Meaning : Type 0 where
 unfoldable pub byKind : List ℕ → Meaning
 byKind [] = refused
 byKind (k ∷ d) =
-    cond (eqb k 1) (cond (leb (length d) screenBytes) (writes d) refused)
-    (cond (eqb k 2) (cond (eqb (length d) screenBytes) (screen d) refused) refused)
+    cond (eqb k 1) (cond (leb (length d) captureBytes) (writes d) refused)
+    (cond (eqb k 2) (cond (eqb (length d) captureBytes) (screen d) refused) refused)
 
 unfoldable pub byBytes : Option (List ℕ) → Meaning
 byBytes none = refused

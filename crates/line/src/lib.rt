@@ -6,14 +6,12 @@ ghost use Rattle.line.specs.Calls.{lineTold, lineAnswer, lineBytes, kind
 use hex::decode;
 use hex::digit;
 use hex::spells;
+use parts::CAPTURE_BYTES;
 
 pub mod lines;
 
-// The bytes of a screen, and the most writes of a line.
-pub const SCREEN_BYTES: usize = 5760;
-
 // The digits of the longest line that means something.
-pub const LINE_DIGITS: usize = 11522;
+pub const LINE_DIGITS: usize = 2 * (1 + CAPTURE_BYTES);
 
 // What a line is: refused, with document 01's number; so many writes; or a screen.
 pub enum Line {
@@ -27,7 +25,7 @@ pub fn parse(text: &[u8], bytes: &mut [u8]) -> Line
     ensures { λ r. ⌜ lineTold r ≡ lineAnswer (now (text .entry)) (now (bytes .entry)) ⌝ }
     ensures { λ r. ⌜ now (bytes .exit) ≡ lineBytes (now (text .entry)) (now (bytes .entry)) ⌝ }
 {
-    if bytes.len() < SCREEN_BYTES {
+    if bytes.len() < CAPTURE_BYTES {
         return Line::Refused(6);
     }
     let kind = kind_of(text);

@@ -12,11 +12,12 @@ use Rattle.bits.specs.Answer.{given}
 use Rattle.bits.specs.Answer.{refused as refusal}
 use Rattle.rules.specs.Screen.{screened}
 use Rattle.bits.proofs.Overs.{over-all}
-use Rattle.line.specs.Line.{screenBytes, Meaning, writes, screen, refused, meaningOf}
+use Rattle.parts.specs.Parts.{captureBytes}
+use Rattle.line.specs.Line.{Meaning, writes, screen, refused, meaningOf}
 use Rattle.line.specs.Lines.{meaningMarked}
 use Rattle.line.specs.Split.{heldAs}
-use Rattle.line.specs.Calls.{writesOf, oneScreen, meaningTold, filled, lineAnswer, lineBytes}
-use Rattle.line.specs.declared.lines.Held.{Held}
+use Rattle.line.specs.Calls.{writesOf, oneScreen, lineTold, meaningTold, filled, lineAnswer, lineBytes}
+use Rattle.line.proofs.Splitting.{held-long, held-means}
 use borrow.Author.Tests.{le-leb, lt-leb, lt-ltb, le-ltb}
 use lib.Dec.{leb, ltb}
 use mathlib.Core.Bool.{Bool, true, false}
@@ -26,8 +27,11 @@ use Rattle.text.proofs.Printed.{length-hexLine}
 use Rattle.log.specs.Events.{Event, completed}
 use Rattle.log.specs.Events.{refusal as refused-line}
 use Rattle.log.specs.Texts.{shownOne, shown}
-use Rattle.log.proofs.Takes.{Fits}
-use Rattle.log.specs.Steps.{Desk, desk, pending, toldOf, ranOn, playedTo, answerOf, nextLine, endedAs, toldBy, ToldFits, goesOn, stepRoom, left, lastLf}
+use Rattle.log.proofs.Takes.{Fits, fits-line}
+use Rattle.log.proofs.Keeps.{filled-long}
+use Rattle.line.specs.declared.Line.{Line}
+use Rattle.line.specs.declared.Line.the-variants as L
+use Rattle.log.specs.Steps.{Desk, desk, pending, toldOf, ranOn, playedTo, answerOf, nextLine, endedAs, ended, toldBy, ToldFits, goesOn, stepRoom, left, lastLf}
 use Rattle.log.specs.declared.Reading.{Reading}
 use Rattle.log.specs.declared.Step.{Step}
 use Rattle.log.specs.declared.Told.{Told}
@@ -50,7 +54,7 @@ module _ (r : Reading) (b bytes command : List ℕ) (at : ℕ) where
   abbrev ws : List ℕ
   ws = take (r .upto - r .from) (drop (r .from) bytes)
 
-  pub played-within : (n : ℕ) → r .from ≤ r .upto → r .upto ≤ screenBytes → n ≡ played (load b) ws .at → r .from + n ≤ screenBytes
+  pub played-within : (n : ℕ) → r .from ≤ r .upto → r .upto ≤ captureBytes → n ≡ played (load b) ws .at → r .from + n ≤ captureBytes
   played-within n h k e = let l : length ws ≤ r .upto - r .from = simp length-take (omega arith) in omega (arith, at-most (load b) ws)
 
   pub played-answer : (n packets : ℕ) (t : Told) → n ≡ played (load b) ws .at → packets ≡ packetsIn (played (load b) ws .told) → t ≡ toldOf packets
@@ -63,7 +67,7 @@ module _ (r : Reading) (b bytes command : List ℕ) (at : ℕ) where
 -- ---- a line that has ended
 
 module _ (r : Reading) (d : Desk) (at : ℕ) where
-  abbrev behind : ℕ → Told → Step
+  abbrev pub behind : ℕ → Told → Step
   behind n t = record { reading = nextLine r n; at = at; told = t }
 
   -- what the code leaves, by the line's meaning
@@ -84,7 +88,7 @@ module _ (r : Reading) (d : Desk) (at : ℕ) where
   ends-writes (screen x) n bytes e f = let z : _≡_ {A = ℕ} 0 1 = cc in absurd (omega arith)
   ends-writes refused n bytes e f = let z : _≡_ {A = ℕ} 0 1 = cc in absurd (omega arith)
 
-  pub ends-screen : (m : Meaning) (bytes block : List ℕ) → Fits m → length (d .bytes) ≡ screenBytes → given oneScreen ≡ meaningTold m → bytes ≡ filled m (d .bytes)
+  pub ends-screen : (m : Meaning) (bytes block : List ℕ) → Fits m → length (d .bytes) ≡ captureBytes → given oneScreen ≡ meaningTold m → bytes ≡ filled m (d .bytes)
       → block ≡ save (screened (load (d .block)) bytes) → Ends m (behind 0 Nothing) block bytes
   unfolding meaningTold filled endedAs Fits
   ends-screen (writes ws) bytes block g l e f h = let z : _≡_ {A = ℕ} 0 1 = cc in absurd (omega arith)
@@ -93,10 +97,54 @@ module _ (r : Reading) (d : Desk) (at : ℕ) where
       record { answers = refl; blocks = h ∙ ap (λ (y : List ℕ). save (screened (load (d .block)) y)) k; holds = f }
   ends-screen refused bytes block g l e f h = let z : _≡_ {A = ℕ} 0 1 = cc in absurd (omega arith)
 
+-- which line it is that ended
+module _ (r : Reading) (d : Desk) (at : ℕ) (answer : Step) (block bytes : List ℕ) where
+  abbrev pub Told·Ended : Type 0
+  Told·Ended = (answer ≡ answerOf (ended r d at)) × ((block ≡ ended r d at .desk .block) × (bytes ≡ ended r d at .desk .bytes))
+
+  ended-as : (m : Meaning) → meaningMarked (heldAs (r .held) (d .line)) ≡ m → Ends r d at m answer block bytes → Told·Ended
+  unfolding ended
+  ended-as m e k = rw e (k .answers, (k .blocks, k .holds))
+
+  pub ended-long : r .held .long ≡ true → answer ≡ behind r d at 0 Refused → block ≡ d .block → bytes ≡ d .bytes → Told·Ended
+  unfolding endedAs
+  ended-long e k b y = ended-as refused (held-long (r .held) (d .line) e) (record { answers = k; blocks = b; holds = y })
+
+  pub ended-parsed : r .held .long ≡ false → (a : Step) → answer ≡ a → Ends r d at (meaningOf (take (r .held .size) (d .line))) a block bytes → Told·Ended
+  ended-parsed e a k z = ended-as (meaningOf (take (r .held .size) (d .line))) (held-means (r .held) (d .line) e) (record { answers = k ∙ z .answers; blocks = z .blocks; holds = z .holds })
+
 -- the buffer is long enough for any line
-pub parse-told : (text bytes : List ℕ) → length bytes ≡ screenBytes → (lineAnswer text bytes ≡ meaningTold (meaningOf text)) × (lineBytes text bytes ≡ filled (meaningOf text) bytes)
+pub parse-told : (text bytes : List ℕ) → length bytes ≡ captureBytes → (lineAnswer text bytes ≡ meaningTold (meaningOf text)) × (lineBytes text bytes ≡ filled (meaningOf text) bytes)
 unfolding lineAnswer lineBytes
-parse-told text bytes h = let e : leb screenBytes (length bytes) ≡ true = le-leb screenBytes (length bytes) (omega arith) in (rw e refl, rw e refl)
+parse-told text bytes h = let e : leb captureBytes (length bytes) ≡ true = le-leb captureBytes (length bytes) (omega arith) in (rw e refl, rw e refl)
+
+-- the answer of `parse`, by its case
+module _ (r : Reading) (d : Desk) (at : ℕ) (short : r .held .long ≡ false) (long : length (d .bytes) ≡ captureBytes) (n : ℕ) (same : n ≡ r .held .size) (m : Line) (bytes : List ℕ)
+    (told : lineTold m ≡ lineAnswer (take n (d .line)) (d .bytes)) (left-in : bytes ≡ lineBytes (take n (d .line)) (d .bytes)) (answer : Step) where
+  abbrev M : Meaning
+  M = meaningOf (take (r .held .size) (d .line))
+
+  told-is : lineTold m ≡ meaningTold M
+  told-is = told ∙ ap (λ (k : ℕ). lineAnswer (take k (d .line)) (d .bytes)) same ∙ parse-told (take (r .held .size) (d .line)) (d .bytes) long .0
+
+  left-is : bytes ≡ filled M (d .bytes)
+  left-is = left-in ∙ ap (λ (k : ℕ). lineBytes (take k (d .line)) (d .bytes)) same ∙ parse-told (take (r .held .size) (d .line)) (d .bytes) long .1
+
+  pub parsed-refused : (k : ℕ) → m ≡ L.Refused k → answer ≡ behind r d at 0 Refused → Told·Ended r d at answer (d .block) bytes
+  unfolding lineTold
+  parsed-refused k e a = ended-parsed r d at answer (d .block) bytes short (behind r d at 0 Refused) a (ends-refused r d at M k bytes (ap lineTold (sym e) ∙ told-is) left-is)
+
+  pub parsed-writes : (k : ℕ) → m ≡ L.Writes k → answer ≡ behind r d at k Nothing → Told·Ended r d at answer (d .block) bytes
+  unfolding lineTold
+  parsed-writes k e a = ended-parsed r d at answer (d .block) bytes short (behind r d at k Nothing) a (ends-writes r d at M k bytes (ap lineTold (sym e) ∙ told-is) left-is)
+
+  pub parsed-screen : (block : List ℕ) → m ≡ L.Screen → block ≡ save (screened (load (d .block)) bytes) → answer ≡ behind r d at 0 Nothing → Told·Ended r d at answer block bytes
+  unfolding lineTold
+  parsed-screen block e h a = ended-parsed r d at answer block bytes short (behind r d at 0 Nothing) a (ends-screen r d at M bytes block (fits-line (take (r .held .size) (d .line))) long (ap lineTold (sym e) ∙ told-is) left-is h)
+
+-- a screen that a line has is as long as the buffer
+pub bytes-long : (text bytes b : List ℕ) → length b ≡ captureBytes → bytes ≡ lineBytes text b → length bytes ≡ captureBytes
+bytes-long text bytes b h e = ap length (e ∙ parse-told text b h .1) ∙ filled-long (meaningOf text) b (fits-line text) h
 
 -- ---- text
 

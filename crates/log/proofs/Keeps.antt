@@ -8,7 +8,7 @@ use native.Mathlib.Omega.{arith}
 use borrow.Author.Tests.{ltb-true, ltb-false, leb-true}
 use lib.Dec.{ltb, leb, eqb}
 use lib.ListN.{length, take, drop, length-drop, length-take, length-append}
-use Rattle.parts.specs.Parts.{storeBytes}
+use Rattle.parts.specs.Parts.{captureBytes, storeBytes}
 use Rattle.bits.specs.Over.{over}
 use Rattle.bits.proofs.Overs.{length-over}
 use Rattle.bits.proofs.Tests.{either}
@@ -22,7 +22,7 @@ use Rattle.rules.specs.Screen.{screened}
 use Rattle.rules.proofs.Keeps.{WholeIf, good-screened}
 use Rattle.port.specs.Bytes.{handed}
 use Rattle.play.specs.Play.{Played, stop, played}
-use Rattle.line.specs.Line.{Meaning, writes, screen, refused, screenBytes, lineDigits}
+use Rattle.line.specs.Line.{Meaning, writes, screen, refused, lineDigits}
 use Rattle.line.specs.Lines.{meaningMarked}
 use Rattle.line.specs.Split.{heldAs, taken, tookHeld, tookLine, upToLf, lfAt}
 use Rattle.line.specs.Calls.{filled}
@@ -101,21 +101,28 @@ ran-keeps r d size at f h more =
       less = λ z. omega arith;
     }
 
+-- the buffer of the decoded bytes keeps its length
+pub filled-long : (m : Meaning) (b : List ℕ) → Fits m → length b ≡ captureBytes → length (filled m b) ≡ captureBytes
+unfolding filled Fits
+filled-long (writes ws) b g h = length-over 0 (length ws) ws b (omega arith) refl ∙ h
+filled-long (screen x) b g h = length-over 0 (length x) x b (omega arith) refl ∙ h
+filled-long refused b g h = h
+
 -- a line that has ended
 record Ended·Keeps (r : Reading) (at : ℕ) (s : Stepped) : Type 0 where
   pub fit : Fit (s .reading) (s .desk)
   pub at-is : s .at ≡ at
   pub number-is : s .reading .number ≡ r .number + 1
-  pub few : s .reading .upto - s .reading .from ≤ screenBytes
+  pub few : s .reading .upto - s .reading .from ≤ captureBytes
 
 ended-keeps : (m : Meaning) (r : Reading) (d : Desk) (at : ℕ) → Fits m → Fit r d → Ended·Keeps r at (endedAs m r d at)
-unfolding endedAs Fits filled
+unfolding endedAs Fits
 ended-keeps (writes ws) r d at g f = record {
   fit =
       record {
         valid = f .valid;
         line-long = f .line-long;
-        bytes-long = length-over 0 (length ws) ws (d .bytes) (omega (arith, f .bytes-long)) refl ∙ f .bytes-long;
+        bytes-long = filled-long (writes ws) (d .bytes) g (f .bytes-long);
         command-long = f .command-long;
         held-fits = omega arith;
         from-fits = omega arith;
@@ -131,7 +138,7 @@ ended-keeps (screen x) r d at g f = record {
       record {
         valid = good-saved (screened (load (d .block)) x) (good-screened (load (d .block)) x g (valid-good (d .block) (f .valid .tested)));
         line-long = f .line-long;
-        bytes-long = length-over 0 (length x) x (d .bytes) (omega (arith, f .bytes-long, g)) refl ∙ f .bytes-long;
+        bytes-long = filled-long (screen x) (d .bytes) g (f .bytes-long);
         command-long = f .command-long;
         held-fits = omega arith;
         from-fits = omega arith;

@@ -5,3 +5,4 @@ pub mod Keeps
 pub mod Fills
 pub mod Coded
 pub mod Whole
+pub mod Stepping

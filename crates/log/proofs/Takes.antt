@@ -19,7 +19,8 @@ use Rattle.layout.specs.Valid.{Valid}
 use Rattle.layout.proofs.Goods.{valid-good, good-back}
 use Rattle.rules.specs.Screen.{screened}
 use Rattle.rules.proofs.Keeps.{good-screened}
-use Rattle.line.specs.Line.{Meaning, writes, screen, refused, screenBytes, lineDigits, byKind, byBytes, meaningOf}
+use Rattle.parts.specs.Parts.{captureBytes}
+use Rattle.line.specs.Line.{Meaning, writes, screen, refused, lineDigits, byKind, byBytes, meaningOf}
 use Rattle.line.specs.Lines.{markedFrom, meaningMarked, grown}
 use Rattle.line.specs.Split.{heldAs, nothing, taken, tookHeld, tookLine, upToLf, lfAt}
 use Rattle.line.specs.Calls.{filled}
@@ -32,21 +33,25 @@ use Rattle.log.specs.declared.Told.the-variants.{Nothing}
 -- ---- a line's meaning: its writes and its screen fit the buffer
 
 unfoldable pub Fits : Meaning → Type 0
-Fits (writes ws) = length ws ≤ screenBytes
-Fits (screen x) = length x ≡ screenBytes
+Fits (writes ws) = length ws ≤ captureBytes
+Fits (screen x) = length x ≡ captureBytes
 Fits refused = Unit {0}
 
 fits-kind : (b : List ℕ) → Fits (byKind b)
 unfolding byKind Fits
 fits-kind [] = tt
 fits-kind (k ∷ b) =
-    either Fits (eqb k 1) (λ e. either Fits (leb (length b) screenBytes) (λ h. leb-true (length b) screenBytes h) (λ h. tt))
-    (λ e. either Fits (eqb k 2) (λ g. either Fits (eqb (length b) screenBytes) (λ h. eqb-true (length b) screenBytes h) (λ h. tt)) (λ g. tt))
+    either Fits (eqb k 1) (λ e. either Fits (leb (length b) captureBytes) (λ h. leb-true (length b) captureBytes h) (λ h. tt))
+    (λ e. either Fits (eqb k 2) (λ g. either Fits (eqb (length b) captureBytes) (λ h. eqb-true (length b) captureBytes h) (λ h. tt)) (λ g. tt))
 
 fits-bytes : (o : Option (List ℕ)) → Fits (byBytes o)
 unfolding byBytes
 fits-bytes none = unfold Fits in tt
 fits-bytes (some b) = fits-kind b
+
+pub fits-line : (s : List ℕ) → Fits (meaningOf s)
+unfolding meaningOf
+fits-line s = fits-bytes (bytesOf s)
 
 pub fits-marked : (h : Option (List ℕ)) → Fits (meaningMarked h)
 unfolding meaningMarked meaningOf

@@ -18,7 +18,8 @@ use Rattle.rules.specs.Screen.{screened}
 use Rattle.rules.proofs.Keeps.{Whole, WholeIf, good-written, answered-whole, good-screened}
 use Rattle.port.specs.Bytes.{handed, packetsIn}
 use Rattle.play.specs.Play.{Played, stop, played}
-use Rattle.line.specs.Line.{Meaning, writes, screen, refused, screenBytes, lineDigits}
+use Rattle.parts.specs.Parts.{captureBytes}
+use Rattle.line.specs.Line.{Meaning, writes, screen, refused, lineDigits}
 use Rattle.line.specs.Lines.{markedFrom, meaningMarked}
 use Rattle.line.specs.Split.{heldAs}
 use Rattle.log.specs.Events.{Event, completed, refusal, told, writeEvents, afterWrites, lineEvents, afterLine, eventsFrom, afterLines}

@@ -8,13 +8,13 @@ use mathlib.Core.Path.{_≡_}
 use lib.Dec.{ltb, leb}
 use lib.ListN.{length, take, drop}
 use Rattle.layout.specs.Block.{load, save}
-use Rattle.parts.specs.Parts.{storeBytes}
+use Rattle.parts.specs.Parts.{captureBytes, storeBytes}
 use Rattle.layout.specs.Sgb.{Sgb}
 use Rattle.layout.specs.Valid.{Valid}
 use Rattle.rules.specs.Screen.{screened}
 use Rattle.port.specs.Bytes.{handed, packetsIn}
 use Rattle.play.specs.Play.{Played, played}
-use Rattle.line.specs.Line.{screenBytes, lineDigits, Meaning, writes, screen, refused}
+use Rattle.line.specs.Line.{lineDigits, Meaning, writes, screen, refused}
 use Rattle.line.specs.Lines.{markedFrom, meaningMarked}
 use Rattle.line.specs.Split.{heldAs, nothing, taken, tookLine, upToLf}
 use Rattle.line.specs.Calls.{filled}
@@ -139,7 +139,7 @@ isRefused Refused = true
 
 -- what is left to do, which falls with each step: a line's end may bring as many writes as a screen has bytes
 unfoldable pub left : Reading → ℕ → ℕ → ℕ
-left r size at = (size - at) * (screenBytes + 2) + (r .upto - r .from)
+left r size at = (size - at) * (captureBytes + 2) + (r .upto - r .from)
 
 -- where a fill stands: the reading, how far the chunk is used up, whether the last step refused a line, the buffers, and all that was told
 pub record Filling : Type 0 where
@@ -184,11 +184,11 @@ lastLf r = cond (r .held .long) (10 ∷ []) (cond (ltb 0 (r .held .size)) (10 �
 pub record Fit (r : Reading) (d : Desk) : Type 0 where
   pub valid : Valid (d .block)
   pub line-long : length (d .line) ≡ lineDigits
-  pub bytes-long : length (d .bytes) ≡ screenBytes
+  pub bytes-long : length (d .bytes) ≡ captureBytes
   pub command-long : storeBytes ≤ length (d .command)
   pub held-fits : r .held .size ≤ lineDigits
   pub from-fits : r .from ≤ r .upto
-  pub upto-fits : r .upto ≤ screenBytes
+  pub upto-fits : r .upto ≤ captureBytes
   pub number-fits : 1 ≤ r .number
 
 -- ---- what is still to be told from here, where the input goes on with `rest`; and the unit at its end

@@ -6,15 +6,19 @@ ghost use Prim.Native.Nat.{_+_, _*_, _≤_, _<_};
 ghost use lib.Dec.{ltb};
 ghost use lib.ListN.{length, take};
 ghost use mathlib.Core.List.{[]};
-ghost use Rattle.parts.specs.Parts.{storeBytes};
+ghost use Rattle.parts.specs.Parts.{captureBytes, storeBytes};
 ghost use Rattle.layout.specs.Valid.{Valid};
-ghost use Rattle.line.specs.Line.{screenBytes};
 ghost use Rattle.text.specs.Text.{hexLine};
-ghost use Rattle.log.specs.Steps.{begun, left, fill, desk, toldOf, ranOn, answerOf, goesOn, stepRoom, ToldFits, toldBy, lastLf, nextLine};
+ghost use Rattle.line.specs.Line.{lineDigits};
+ghost use Rattle.log.specs.Steps.{begun, left, fill, desk, toldOf, ranOn, answerOf, ended, stepped, Fit, goesOn, stepRoom, ToldFits, toldBy, lastLf, nextLine};
 ghost use Rattle.log.specs.Texts.{shown};
 ghost use Rattle.bits.specs.Over.{over};
+use line::Line;
 use line::lines::Held;
+use line::lines::split;
+use line::parse;
 use play::play;
+use show::show;
 use text::command_line;
 use text::refusal_line;
 
@@ -88,8 +92,8 @@ fn told_of(packets: u8) -> Told
 
 // The decoded writes, up to the next command.
 fn play_on(reading: Reading, block: &mut [u8], bytes: &[u8], command: &mut [u8], at: usize) -> Step
-    requires { ⌜ Valid (now block) × ((length (now bytes) ≡ screenBytes) × (storeBytes ≤ length (now command))) ⌝ }
-    requires { ⌜ (reading .from ≤ reading .upto) × (reading .upto ≤ screenBytes) ⌝ }
+    requires { ⌜ Valid (now block) × ((length (now bytes) ≡ captureBytes) × (storeBytes ≤ length (now command))) ⌝ }
+    requires { ⌜ (reading .from ≤ reading .upto) × (reading .upto ≤ captureBytes) ⌝ }
     ensures { λ r. ⌜ r ≡ answerOf (ranOn reading (desk (now (block .entry)) [] (now (bytes .entry)) (now (command .entry))) at) ⌝ }
     ensures { λ _. ⌜ now (block .exit) ≡ ranOn reading (desk (now (block .entry)) [] (now (bytes .entry)) (now (command .entry))) at .desk .block ⌝ }
     ensures { λ _. ⌜ now (command .exit) ≡ ranOn reading (desk (now (block .entry)) [] (now (bytes .entry)) (now (command .entry))) at .desk .command ⌝ }
@@ -183,5 +187,69 @@ fn behind(reading: Reading, at: usize, n: usize, told: Told) -> Step
         },
         at: at,
         told: told,
+    }
+}
+
+// The line that is held has ended.
+fn end_line(reading: Reading, block: &mut [u8], line: &[u8], bytes: &mut [u8], at: usize) -> Step
+    requires { ⌜ Valid (now block) × ((length (now line) ≡ lineDigits) × (length (now bytes) ≡ captureBytes)) ⌝ }
+    requires { ⌜ (reading .held .size ≤ lineDigits) × (reading .number < 18446744073709551615) ⌝ }
+    ensures { λ r. ⌜ r ≡ answerOf (ended reading (desk (now (block .entry)) (now (line .entry)) (now (bytes .entry)) []) at) ⌝ }
+    ensures { λ _. ⌜ now (block .exit) ≡ ended reading (desk (now (block .entry)) (now (line .entry)) (now (bytes .entry)) []) at .desk .block ⌝ }
+    ensures { λ _. ⌜ now (bytes .exit) ≡ ended reading (desk (now (block .entry)) (now (line .entry)) (now (bytes .entry)) []) at .desk .bytes ⌝ }
+{
+    let held = reading.held;
+    if held.long {
+        return behind(reading, at, 0, Told::Refused);
+    }
+    let size = held.size;
+    let m = parse(&line[0..size], bytes);
+    match m {
+        Line::Refused(_) => behind(reading, at, 0, Told::Refused),
+        Line::Writes(n) => behind(reading, at, n, Told::Nothing),
+        Line::Screen => {
+            show(block, bytes);
+            behind(reading, at, 0, Told::Nothing)
+        }
+    }
+}
+
+// One step: the decoded writes up to the next command, or the chunk up to the next line's end.
+pub fn take_step(
+    reading: Reading,
+    block: &mut [u8],
+    line: &mut [u8],
+    bytes: &mut [u8],
+    command: &mut [u8],
+    chunk: &[u8],
+    at: usize,
+) -> Step
+    requires { ⌜ Fit reading (desk (now block) (now line) (now bytes) (now command)) ⌝ }
+    requires { ⌜ (reading .number < 18446744073709551615) × (at ≤ length (now chunk)) ⌝ }
+    ensures { λ r. ⌜ r ≡ answerOf (stepped reading (desk (now (block .entry)) (now (line .entry)) (now (bytes .entry)) (now (command .entry))) (now (chunk .entry)) at) ⌝ }
+    ensures { λ _. ⌜ now (block .exit) ≡ stepped reading (desk (now (block .entry)) (now (line .entry)) (now (bytes .entry)) (now (command .entry))) (now (chunk .entry)) at .desk .block ⌝ }
+    ensures { λ _. ⌜ now (line .exit) ≡ stepped reading (desk (now (block .entry)) (now (line .entry)) (now (bytes .entry)) (now (command .entry))) (now (chunk .entry)) at .desk .line ⌝ }
+    ensures { λ _. ⌜ now (bytes .exit) ≡ stepped reading (desk (now (block .entry)) (now (line .entry)) (now (bytes .entry)) (now (command .entry))) (now (chunk .entry)) at .desk .bytes ⌝ }
+    ensures { λ _. ⌜ now (command .exit) ≡ stepped reading (desk (now (block .entry)) (now (line .entry)) (now (bytes .entry)) (now (command .entry))) (now (chunk .entry)) at .desk .command ⌝ }
+{
+    if reading.from < reading.upto {
+        return play_on(reading, block, bytes, command, at);
+    }
+    let held = reading.held;
+    let t = split(held, line, chunk, at);
+    let after = t.held;
+    let now = Reading {
+        held: after,
+        number: reading.number,
+        from: 0,
+        upto: 0,
+    };
+    if t.at < chunk.len() {
+        return end_line(now, block, line, bytes, t.at + 1);
+    }
+    Step {
+        reading: now,
+        at: t.at,
+        told: Told::Nothing,
     }
 }

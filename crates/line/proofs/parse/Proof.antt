@@ -4,7 +4,7 @@ use mathlib.Core.Path.{_≡_, sym, _∙_}
 use native.Mathlib.Omega.{arith}
 use lib.ListN.{length, take, drop, length-take, length-drop}
 use Rattle.hex.specs.Hex.{spelled}
-use Rattle.line.specs.Line.{screenBytes}
+use Rattle.parts.specs.Parts.{captureBytes}
 use Rattle.line.proofs.Form.{Body}
 use Rattle.line.proofs.Told.{kind-refused, kind-body, kind-fits, kind-screen, kind-writes, past-kind, answers-short, answers-refused, answers-screen, answers-writes}
 use Rattle.line.proofs.parse.Statement.{statement}
@@ -46,7 +46,7 @@ decode-requires c κs =
     let s = start .text .now in
     let k = c .before .before .before .kind-of in
     let y : Body s = kind-body s (k .result) (k .ensures) (c .before .before .if2 .left) in
-    let n : length (spelled (drop 2 s)) ≤ screenBytes = kind-fits s (k .result) (k .ensures) (c .before .before .if2 .left) in
+    let n : length (spelled (drop 2 s)) ≤ captureBytes = kind-fits s (k .result) (k .ensures) (c .before .before .if2 .left) in
     (rw (past-kind s) (y .rest), simp (length-take, length-drop) (omega arith))
 
 same-length : tie.Need-same-length
