@@ -4,10 +4,10 @@ use mathlib.Core.Bool.{Bool, true, false, cond, not, _&&_}
 use mathlib.Core.List.{List, [], _∷_, _++_, append-assoc}
 use Prim.Native.Nat.{ℕ, zero, suc, _+_, _-_, _≤_, _<_}
 use native.Mathlib.Omega.{arith}
-use borrow.Author.Tests.{ltb-true, ltb-false}
+use borrow.Author.Tests.{ltb-true, ltb-false, leb-true}
 use lib.Dec.{ltb, leb}
 use lib.ListN.{length, drop}
-use Rattle.bits.proofs.Tests.{either, and-right}
+use Rattle.bits.proofs.Tests.{either, and-left, and-right}
 use Rattle.layout.specs.Sgb.{Sgb}
 use Rattle.log.specs.Events.{Event}
 use Rattle.log.specs.Texts.{shown}
@@ -97,6 +97,11 @@ next-fit f chunk k h = let s = step-keeps (f .reading) (f .desk) chunk (f .at) k
 pub goes-left : (refused : Bool) (written : ℕ) (r : Reading) (at size room : ℕ) → goesOn refused written r at size room ≡ true → 0 < left r size at
 unfolding goesOn
 goes-left refused written r at size room e = ltb-true 0 (left r size at) (and-right (leb (written + 256) room) (ltb 0 (left r size at)) (and-right (not refused) (leb (written + 256) room && ltb 0 (left r size at)) e))
+
+-- and room for the next text
+pub goes-room : (refused : Bool) (written : ℕ) (r : Reading) (at size room : ℕ) → goesOn refused written r at size room ≡ true → written + 256 ≤ room
+unfolding goesOn
+goes-room refused written r at size room e = leb-true (written + 256) room (and-left (leb (written + 256) room) (ltb 0 (left r size at)) (and-right (not refused) (leb (written + 256) room && ltb 0 (left r size at)) e))
 
 fills-all : (n room : ℕ) (f : Filling) (chunk : List ℕ) → Fit (f .reading) (f .desk) → f .at ≤ length chunk → Fills chunk f (fills n room f chunk)
 unfolding fills

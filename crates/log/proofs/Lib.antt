@@ -6,3 +6,4 @@ pub mod Fills
 pub mod Coded
 pub mod Whole
 pub mod Stepping
+pub mod Turns

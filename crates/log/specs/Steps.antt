@@ -7,6 +7,7 @@ use mathlib.Core.List.{List, [], _∷_, _++_, map}
 use mathlib.Core.Path.{_≡_}
 use lib.Dec.{ltb, leb}
 use lib.ListN.{length, take, drop}
+use Rattle.bits.specs.Over.{over}
 use Rattle.layout.specs.Block.{load, save}
 use Rattle.parts.specs.Parts.{captureBytes, storeBytes}
 use Rattle.layout.specs.Sgb.{Sgb}
@@ -22,6 +23,7 @@ use Rattle.line.specs.declared.lines.Held.{Held}
 use Rattle.log.specs.Events.{Event, completed, refusal, writeEvents, afterWrites, eventsFrom, afterLines}
 use Rattle.log.specs.Texts.{shown}
 use Rattle.log.specs.declared.Reading.{Reading}
+use Rattle.log.specs.declared.Filled.{Filled}
 use Rattle.log.specs.declared.Step.{Step}
 use Rattle.log.specs.declared.Told.{Told}
 use Rattle.log.specs.declared.Told.the-variants.{Nothing, Command, Refused}
@@ -157,11 +159,21 @@ stepRoom = 256
 unfoldable pub goesOn : Bool → ℕ → Reading → ℕ → ℕ → ℕ → Bool
 goesOn over written r at size room = not over && (leb (written + stepRoom) room && ltb 0 (left r size at))
 
+unfoldable pub filledBy : ℕ → Stepped → Filled
+filledBy n s = record { reading = s .reading; at = s .at; size = n + length (shown (eventsOn s)); refused = isRefused (s .told) }
+
 unfoldable pub nextBy : Filling → Stepped → Filling
 nextBy f s = record { reading = s .reading; at = s .at; refused = isRefused (s .told); desk = s .desk; events = f .events ++ eventsOn s }
 
 unfoldable pub next : Filling → List ℕ → Filling
 next f chunk = nextBy f (stepped (f .reading) (f .desk) chunk (f .at))
+
+-- what the code leaves of a step: the step, and its text behind the text that there was
+pub record Said (f : Filled) (d : Desk) (chunk out : List ℕ) (g : Filled) (e : Desk) (out′ : List ℕ) : Type 0 where
+  pub goes : g ≡ filledBy (f .size) (stepped (f .reading) d chunk (f .at))
+  pub lends : e ≡ stepped (f .reading) d chunk (f .at) .desk
+  pub fits : g .size ≤ length out
+  pub tells : out′ ≡ over (f .size) (length (shown (eventsOn (stepped (f .reading) d chunk (f .at))))) (shown (eventsOn (stepped (f .reading) d chunk (f .at)))) out
 
 -- at most n steps more
 unfoldable pub fills : ℕ → ℕ → Filling → List ℕ → Filling
@@ -172,6 +184,15 @@ fills (suc n) room f chunk =
 -- as many as there are
 unfoldable pub fill : ℕ → Reading → Desk → List ℕ → ℕ → Filling
 fill room r d chunk at = fills (left r (length chunk) at) room (record { reading = r; at = at; refused = false; desk = d; events = [] }) chunk
+
+unfoldable pub filledTo : Filling → Filled
+filledTo f = record { reading = f .reading; at = f .at; size = length (shown (f .events)); refused = f .refused }
+
+-- what the code leaves of a fill: its text is at the front of the output, whose tail is kept
+pub record Full (r : Reading) (d : Desk) (chunk : List ℕ) (at : ℕ) (out : List ℕ) (g : Filled) (e : Desk) (out′ : List ℕ) : Type 0 where
+  pub goes : g ≡ filledTo (fill (length out) r d chunk at)
+  pub lends : e ≡ fill (length out) r d chunk at .desk
+  pub tells : out′ ≡ over 0 (length (shown (fill (length out) r d chunk at .events))) (shown (fill (length out) r d chunk at .events)) out
 
 -- ---- the end of the input
 

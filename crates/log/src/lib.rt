@@ -10,7 +10,7 @@ ghost use Rattle.parts.specs.Parts.{captureBytes, storeBytes};
 ghost use Rattle.layout.specs.Valid.{Valid};
 ghost use Rattle.text.specs.Text.{hexLine};
 ghost use Rattle.line.specs.Line.{lineDigits};
-ghost use Rattle.log.specs.Steps.{begun, left, fill, desk, toldOf, ranOn, answerOf, ended, stepped, Fit, goesOn, stepRoom, ToldFits, toldBy, lastLf, nextLine};
+ghost use Rattle.log.specs.Steps.{begun, left, fill, desk, toldOf, ranOn, answerOf, ended, stepped, Fit, goesOn, stepRoom, ToldFits, Said, Full, isRefused, toldBy, lastLf, nextLine};
 ghost use Rattle.log.specs.Texts.{shown};
 ghost use Rattle.bits.specs.Over.{over};
 use line::Line;
@@ -115,18 +115,18 @@ fn play_on(reading: Reading, block: &mut [u8], bytes: &[u8], command: &mut [u8],
 }
 
 // Whether a fill goes on: up to a refused line, while the next text has room, and while anything is left.
-fn goes_on(now: Filled, size: usize, room: usize) -> bool
-    requires { ⌜ now .size ≤ room ⌝ }
-    ensures { λ r. ⌜ r ≡ goesOn (now .refused) (now .size) (now .reading) (now .at) size room ⌝ }
+fn goes_on(so_far: Filled, size: usize, room: usize) -> bool
+    requires { ⌜ «so_far» .size ≤ room ⌝ }
+    ensures { λ r. ⌜ r ≡ goesOn («so_far» .refused) («so_far» .size) («so_far» .reading) («so_far» .at) size room ⌝ }
 {
-    if now.refused {
+    if so_far.refused {
         return false;
     }
-    if room - now.size < STEP_ROOM {
+    if room - so_far.size < STEP_ROOM {
         return false;
     }
-    let reading = now.reading;
-    is_left(reading, size, now.at)
+    let reading = so_far.reading;
+    is_left(reading, size, so_far.at)
 }
 
 // The text of what a step tells, from `at` on. Answers its length.
@@ -225,7 +225,7 @@ pub fn take_step(
     at: usize,
 ) -> Step
     requires { ⌜ Fit reading (desk (now block) (now line) (now bytes) (now command)) ⌝ }
-    requires { ⌜ (reading .number < 18446744073709551615) × (at ≤ length (now chunk)) ⌝ }
+    requires { ⌜ (reading .number < 18446744073709551615) × ((at ≤ length (now chunk)) × (length (now chunk) < 18446744073709551615)) ⌝ }
     ensures { λ r. ⌜ r ≡ answerOf (stepped reading (desk (now (block .entry)) (now (line .entry)) (now (bytes .entry)) (now (command .entry))) (now (chunk .entry)) at) ⌝ }
     ensures { λ _. ⌜ now (block .exit) ≡ stepped reading (desk (now (block .entry)) (now (line .entry)) (now (bytes .entry)) (now (command .entry))) (now (chunk .entry)) at .desk .block ⌝ }
     ensures { λ _. ⌜ now (line .exit) ≡ stepped reading (desk (now (block .entry)) (now (line .entry)) (now (bytes .entry)) (now (command .entry))) (now (chunk .entry)) at .desk .line ⌝ }
@@ -252,4 +252,72 @@ pub fn take_step(
         at: t.at,
         told: Told::Nothing,
     }
+}
+
+// One step, and its text behind the text that there is.
+fn say(
+    so_far: Filled,
+    block: &mut [u8],
+    line: &mut [u8],
+    bytes: &mut [u8],
+    command: &mut [u8],
+    chunk: &[u8],
+    out: &mut [u8],
+) -> Filled
+    requires { ⌜ Fit («so_far» .reading) (desk (now block) (now line) (now bytes) (now command)) ⌝ }
+    requires { ⌜ («so_far» .reading .number < 18446744073709551615) × ((«so_far» .at ≤ length (now chunk)) × (length (now chunk) < 18446744073709551615)) ⌝ }
+    requires { ⌜ («so_far» .size + stepRoom ≤ length (now out)) × (length (now out) < 18446744073709551615) ⌝ }
+    ensures { λ r. ⌜ Said «so_far» (desk (now (block .entry)) (now (line .entry)) (now (bytes .entry)) (now (command .entry))) (now (chunk .entry)) (now (out .entry)) r (desk (now (block .exit)) (now (line .exit)) (now (bytes .exit)) (now (command .exit))) (now (out .exit)) ⌝ }
+{
+    let reading = so_far.reading;
+    let s = take_step(reading, block, line, bytes, command, chunk, so_far.at);
+    let n = tell(s, command, out, so_far.size);
+    let next = s.reading;
+    Filled {
+        reading: next,
+        at: s.at,
+        size: so_far.size + n,
+        refused: is_refused(s),
+    }
+}
+
+fn is_refused(step: Step) -> bool
+    ensures { λ r. ⌜ r ≡ isRefused (step .told) ⌝ }
+{
+    let told = step.told;
+    match told {
+        Told::Nothing => false,
+        Told::Command(_) => false,
+        Told::Refused => true,
+    }
+}
+
+// Steps, one after the other, with their texts together at the front of `out`: up to a refused line, while the next text has room, and
+// while anything is left of the chunk or of its last line's writes.
+pub fn fill(
+    start: Reading,
+    block: &mut [u8],
+    line: &mut [u8],
+    bytes: &mut [u8],
+    command: &mut [u8],
+    chunk: &[u8],
+    from: usize,
+    out: &mut [u8],
+) -> Filled
+    requires { ⌜ Fit start (desk (now block) (now line) (now bytes) (now command)) ⌝ }
+    requires { ⌜ (start .number + length (now chunk) ≤ 18446744073709551614 + from) × ((from ≤ length (now chunk)) × (length (now chunk) < 18446744073709551615)) ⌝ }
+    requires { ⌜ length (now out) < 18446744073709551615 ⌝ }
+    ensures { λ r. ⌜ Full start (desk (now (block .entry)) (now (line .entry)) (now (bytes .entry)) (now (command .entry))) (now (chunk .entry)) from (now (out .entry)) r (desk (now (block .exit)) (now (line .exit)) (now (bytes .exit)) (now (command .exit))) (now (out .exit)) ⌝ }
+{
+    let mut f = Filled {
+        reading: start,
+        at: from,
+        size: 0,
+        refused: false,
+    };
+    while goes_on(f, chunk.len(), out.len()) {
+        let g = say(f, block, line, bytes, command, chunk, out);
+        f = g;
+    }
+    f
 }

@@ -33,7 +33,7 @@ split-requires : tie.Need-split-requires
 split-requires c κs = search needs
 
 add-end-line : tie.Need-add-end-line
-add-end-line c = omega (arith, c .before .before .before .before .if2 .taken, c .before .before .before .before .before .before .before .before .before .before .before .before .before .before .shared-slice-known .given)
+add-end-line c = omega (arith, c .before .before .before .before .if2 .taken, c .before .before .before .before .before .before .before .before .before .before .before .before .before .before .before .before .before .before .before .pre .1 .1 .1)
 
 end-line-requires : tie.Need-end-line-requires
 end-line-requires c κs =
