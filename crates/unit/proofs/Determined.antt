@@ -9,6 +9,7 @@ use Rattle.unit.specs.declared.Shown.the-variants as S
 use Rattle.unit.specs.Answers.{writtenTold, shownTold}
 use Rattle.unit.specs.Calls.{writeAnswer, writeBlock, writeCommand, screenAnswer, screenBlock, freshAnswer, newBlock, postBootBlock}
 use Rattle.view.specs.Refusal.{refusalOf}
+use Rattle.transfer.proofs.Pendings.{landed-once}
 
 one-written : (r s : Written) → writtenTold r ≡ writtenTold s → r ≡ s
 unfolding writtenTold
@@ -27,7 +28,7 @@ unfolding shownTold
 one-shown (S.Refused m) (S.Refused n) e = cc
 one-shown (S.Refused m) (S.Took n) e = cc
 one-shown (S.Took m) (S.Refused n) e = cc
-one-shown (S.Took m) (S.Took n) e = cc
+one-shown (S.Took m) (S.Took n) e = ap S.Took (landed-once m n (cc))
 
 -- an outcome of a write that the contract of `write_joypad` allows
 pub record Writes (b : List ℕ) (v : ℕ) (command : List ℕ) (r : Written) (block buffer : List ℕ) : Type 0 where
