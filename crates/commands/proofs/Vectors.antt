@@ -39,7 +39,7 @@ pub mlt-masks : mltIndex 3 255 ≡ 3
 unfolding mltIndex
 mlt-masks = refl
 
--- B9 02: MASK_EN, black; B9 01 freezes, and is fixed
+-- B9 02: MASK_EN, black; B9 05 freezes, by its low two bits, and is fixed
 pub black : decode (sent 0xB9 2) ≡ S.plain (S.maskEn 2)
 unfolding decode find masking
 black = refl

@@ -43,7 +43,7 @@ pub fn most_packets(code: u8) -> usize
     if code == ATTR_CHR { 6 } else { 1 }
 }
 
-// Whether the number of sets or cells that the command announces is one that its map has room for.
+// Whether the number that the command announces is allowed: as many sets or lines as seven packets hold, as many cells as the map has.
 pub fn announces(code: u8, command: &[u8]) -> bool
     requires { ⌜ 16 ≤ length (now command) ⌝ }
     ensures { λ r. ⌜ r ≡ announces code (now (command .entry)) ⌝ }
