@@ -10,6 +10,7 @@ use lib.Dec.{lit<, lit≤, eqb}
 use lib.ListN.{length, getD}
 use Rattle.parts.specs.Parts.{palettesBytes, mapBytes, captureBytes}
 use Rattle.bits.specs.Bit.{bitOf}
+use Rattle.receiver.specs.Count.{codeOf}
 use Rattle.palettes.proofs.Lengths.{length-pal-pair, length-pal-set}
 use Rattle.commands.specs.Command as command
 use Rattle.commands.specs.Command.{Command, Row, table, find, masking, decode}
@@ -154,7 +155,7 @@ find-all P k (r ∷ rs) (more p ps) z = either (eqb k (r .code)) (find-all P k r
 pub command-keeps : (d : List ℕ) → 16 ≤ length d → Keeps (decode d)
 unfolding decode plainly fixedly sent
 command-keeps d l =
-    find-all Keeps (getD d 0 0 / 8) (table d)
+    find-all Keeps (codeOf (getD d 0 0)) (table d)
     (more (pair-keeps 0 1 d (lit< tt) (lit< tt) l)
     (more (pair-keeps 2 3 d (lit< tt) (lit< tt) l)
     (more (pair-keeps 0 3 d (lit< tt) (lit< tt) l)
