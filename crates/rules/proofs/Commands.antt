@@ -76,6 +76,12 @@ unmasked-good g flags h = go (bitOf 6 flags)
     go true = mask-good g 0 (g .frozen) h (lit≤ tt) (unfold maskAllows in refl) (h .frozen)
     go false = mask-good g (g .mask) (g .frozen) h (h .mask) (h .allowed) (h .frozen)
 
+-- PAL_SET and ATTR_SET end a mask at most: the frozen capture stays, whatever their flags
+pub capture-stays : (d : List ℕ) (s : Snes) (g : Game)
+    → (fixedly (command.palSet d) s g .frozen ≡ g .frozen) × (fixedly (command.attrSet d) s g .frozen ≡ g .frozen)
+unfolding fixedly withoutMask withMask withMap withPalettes
+capture-stays d s g = (refl, refl)
+
 -- ---- any command
 
 -- it keeps what is good
