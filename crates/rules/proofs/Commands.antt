@@ -3,7 +3,7 @@ use mathlib.Core.Path.{_≡_, refl}
 use mathlib.Core.Bool.{Bool, true, false, cond}
 use mathlib.Core.List.{List, [], _∷_}
 use mathlib.Core.Option.{Option, none, some}
-use Prim.Native.Nat.{ℕ, zero, suc, _*_, _/_, _%_, _<_, _≤_}
+use Prim.Native.Nat.{ℕ, _%_, _<_, _≤_}
 use native.Mathlib.Omega.{arith}
 use borrow.Author.Tests.{eqb-false, ne-eqb}
 use lib.Dec.{lit<, lit≤, eqb}
@@ -23,7 +23,7 @@ use Rattle.layout.specs.Good.{GoodGame, GoodSnes, SizedIf}
 use Rattle.layout.specs.Block.{isHeld}
 use Rattle.layout.specs.Valid.{maskAllows}
 use Rattle.layout.specs.Sgb.{Game, Snes}
-use Rattle.rules.specs.Carry.{withPads, withPalettes, withMap, withMask, withoutMask, plainly, fixedly, withPending, sent, carriedGame, carriedSnes}
+use Rattle.rules.specs.Carry.{withPalettes, withMap, withMask, withoutMask, plainly, fixedly, withPending, sent, carriedGame, carriedSnes}
 use Rattle.rules.proofs.Pads.{pads-good, mlt-few, mlt-within}
 
 -- ---- one place of the game's part
