@@ -1,5 +1,5 @@
 //! Runs the suites: the port, linked natively, held to the Rust, built unchanged, in one program.
-//! `diff [--seed N] [--scale K] [--suite NAME].. [--list]`; README.md says more.
+//! `diff [--seed N] [--scale K] [--suite NAME].. [--list] [--stored]`; README.md says more.
 
 // the parts that only some suites use stand ready for the others
 #![allow(dead_code)]
@@ -11,6 +11,7 @@ mod generate;
 mod oracle;
 mod rng;
 mod shrink;
+mod stored;
 mod suites;
 mod valid;
 
@@ -58,6 +59,10 @@ fn options() -> Options {
                 suites::ALL.iter().for_each(|s| println!("{}", s.0));
                 std::process::exit(0);
             }
+            "--stored" => {
+                print!("{}", stored::list().0);
+                std::process::exit(0);
+            }
             _ => usage(&word),
         }
     }
@@ -68,7 +73,7 @@ fn options() -> Options {
 }
 
 fn usage(word: &str) -> ! {
-    eprintln!("diff: {word}?\nusage: diff [--seed N] [--scale K] [--suite NAME].. [--list]");
+    eprintln!("diff: {word}?\nusage: diff [--seed N] [--scale K] [--suite NAME].. [--list] [--stored]");
     std::process::exit(2);
 }
 

@@ -7,10 +7,11 @@ use native.Mathlib.Omega.{arith}
 use lib.Bits.{bitOr, or-shifted}
 use lib.ListN.{length, getD}
 use lib.Seq.{ext-getD}
+use Rattle.parts.specs.Parts.{mapBytes}
 use Rattle.bits.specs.Pair.{pairOf, packed}
 use Rattle.bits.proofs.Pairs.{pair-lt, pair-of-packed, packed-of-pairs}
 use Rattle.bits.proofs.Tabs.{length-tab, getD-tab}
-use Rattle.attribute_map.specs.Map.{columns, rows, rowBytes, mapBytes, cell, Sized, fourAt, pack, pairAt, unpack}
+use Rattle.attribute_map.specs.Map.{columns, rows, rowBytes, cell, Sized, fourAt, pack, pairAt, unpack}
 use Rattle.attribute_map.proofs.Grids.{grid-sized, grid-cell, grid-is}
 
 -- four pairs put together by shifts and OR

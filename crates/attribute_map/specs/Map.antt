@@ -4,6 +4,7 @@ use mathlib.Core.Path.{_≡_}
 use mathlib.Core.List.{List, [], _∷_}
 use Prim.Native.Nat.{ℕ, zero, suc, _+_, _*_, _/_, _%_, _<_}
 use lib.ListN.{length, getD}
+use Rattle.parts.specs.Parts.{mapBytes}
 use Rattle.bits.specs.Pair.{pairOf, packed}
 use Rattle.bits.specs.Tab.{tab}
 
@@ -13,12 +14,9 @@ columns = 20
 abbrev pub rows : ℕ
 rows = 18
 
--- the bytes of a packed row, and of a packed map
+-- the bytes of a packed row
 abbrev pub rowBytes : ℕ
 rowBytes = 5
-
-abbrev pub mapBytes : ℕ
-mapBytes = 90
 
 -- the cell in column x and row y
 abbrev pub cell : List (List ℕ) → ℕ → ℕ → ℕ

@@ -3,7 +3,8 @@
 ghost use mathlib.Core.Path.{_≡_};
 ghost use Prim.Native.Nat.{_+_, _*_, _%_};
 ghost use lib.ListN.{length};
-ghost use Rattle.attribute_map.specs.Map.{mapBytes, pack, unpack};
+ghost use Rattle.parts.specs.Parts.{mapBytes};
+ghost use Rattle.attribute_map.specs.Map.{pack, unpack};
 
 // The map that ninety bytes are.
 pub fn unpack(bytes: &[u8]) -> [[u8; 20]; 18]
@@ -32,7 +33,7 @@ pub fn pack(map: [[u8; 20]; 18], bytes: &mut [u8])
     requires { ⌜ length (now bytes) ≡ mapBytes ⌝ }
     ensures { λ _. ⌜ now (bytes .exit) ≡ pack map ⌝ }
 {
-    for i in 0..90 {
+    for i in 0..parts::MAP_BYTES {
         let y = i / 5;
         let x = 4 * (i % 5);
         bytes[i] = four(map[y][x], map[y][x + 1], map[y][x + 2], map[y][x + 3]);

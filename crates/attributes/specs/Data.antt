@@ -3,12 +3,13 @@
 use mathlib.Core.List.{List}
 use Prim.Native.Nat.{ℕ, zero, suc, _/_, _%_, _^_, _≤_}
 use lib.ListN.{length}
+use Rattle.parts.specs.Parts.{storeBytes}
 use Rattle.attribute_map.specs.Map.{grid, cell}
 
 -- a whole command: one to seven packets
 pub record Whole (d : List ℕ) : Type 0 where
   pub least : 16 ≤ length d
-  pub most : length d ≤ 112
+  pub most : length d ≤ storeBytes
 
 -- the palette number in bits k and k + 1 of a byte
 abbrev pub paletteAt : ℕ → ℕ → ℕ

@@ -1,10 +1,11 @@
 -- A list with a part replaced: its length, its parts, how the kit's `paste` (a copy half done) ends as one, and where it meets other lists.
 use mathlib.Core.Path.{_≡_, sym, ap, ap₂, _∙_}
-use mathlib.Core.List.{List, _++_, append-assoc, append-nil}
-use Prim.Native.Nat.{ℕ, _+_, _≤_, _<_}
+use mathlib.Core.List.{List, [], _∷_, _++_, append-assoc, append-nil}
+use Prim.Native.Nat.{ℕ, suc, _+_, _≤_, _<_}
+use native.Mathlib.Numerals.{add-one}
 use native.Mathlib.Omega.{arith}
-use lib.ListN.{length, take, drop, getD, length-append, length-take, length-drop, take-append-drop, drop-of-length-le, List·getD-append}
-use lib.Seq.{paste, take-length, drop-drop, take-append-le, drop-append-le, take-add, getD-take, getD-drop, length-take-le, drop-append-add, take-at, drop-at}
+use lib.ListN.{length, take, drop, getD, set, length-append, length-take, length-drop, take-append-drop, drop-of-length-le, List·getD-append}
+use lib.Seq.{paste, take-length, drop-drop, take-append-le, drop-append-le, take-add, getD-take, getD-drop, length-take-le, drop-append-add, take-at, drop-at, set-split}
 use Rattle.bits.specs.Over.{part, over}
 
 pub length-over : (at n : ℕ) (ys b : List ℕ) → at + n ≤ length b → length ys ≡ n → length (over at n ys b) ≡ length b
@@ -63,3 +64,21 @@ over-rest n m xs ys b h k =
     let ge : length (drop n b) ≤ m = simp length-drop (omega arith) in
     rw (take-at xs (drop n b) n h, drop-at xs (drop n b) n h)
     (ap (λ (z : List ℕ). xs ++ (ys ++ z)) (drop-of-length-le (drop n b) ge) ∙ ap (λ (z : List ℕ). xs ++ z) (append-nil ys))
+
+-- a part written behind the one before it, and one element behind a part
+pub over-over : (at n m : ℕ) (xs ys b : List ℕ) → at ≤ length b → length xs ≡ n → over (at + n) m ys (over at n xs b) ≡ over at (n + m) (xs ++ ys) b
+over-over at n m xs ys b h e =
+    let z : List ℕ = drop n (drop at b) in
+    let front : length (take at b ++ xs) ≡ at + n = simp (length-append, length-take) (omega arith) in
+    ap (over (at + n) m ys) (sym (append-assoc (take at b) xs z))
+    ∙ over-next (at + n) m (take at b ++ xs) ys z front
+    ∙ ap (λ (d : List ℕ). take at b ++ xs ++ ys ++ d) (drop-drop m n (drop at b))
+    ∙ simp append-assoc
+
+pub set-over : (at n : ℕ) (xs b : List ℕ) (v : ℕ) → at + n < length b → length xs ≡ n → set (over at n xs b) (at + n) v ≡ over at (n + 1) (xs ++ (v ∷ [])) b
+set-over at n xs b v h e =
+    let l : at + n < length (over at n xs b) = simp (length-append, length-take, length-drop) (omega arith) in
+    let one : drop (suc (at + n)) (over at n xs b) ≡ drop 1 (drop (at + n) (over at n xs b)) = sym (drop-drop 1 (at + n) (over at n xs b) ∙ rw add-one) in
+    set-split (over at n xs b) (at + n) v l
+    ∙ ap (λ (d : List ℕ). take (at + n) (over at n xs b) ++ (v ∷ d)) one
+    ∙ over-over at n 1 xs (v ∷ []) b (omega arith) e

@@ -1,3 +1,4 @@
+pub mod Answer
 pub mod Bit
 pub mod Over
 pub mod Paint

@@ -9,6 +9,7 @@ use mathlib.Core.Option.{none, some}
 use lib.Dec.{leb}
 use lib.ListN.{length, getD, length-take, length-drop}
 use borrow.Author.Tests.{le-leb, lt-leb, eq-eqb, ne-eqb, leb-true}
+use Rattle.parts.specs.Parts.{tilesBytes}
 use Rattle.bits.proofs.Planes.{bit-lt}
 use Rattle.bits.proofs.Tests.{and-left, and-right}
 use Rattle.colour.specs.Entry.{tileOf, paletteOf, flipX, flipY}
@@ -46,9 +47,9 @@ drawn-palette w d =
     let q = and-right (leb (tileOf w) 255) (leb 4 (paletteOf w) && leb (paletteOf w) 6) d in
     (leb-true 4 (paletteOf w) (and-left _ _ q), leb-true (paletteOf w) 6 (and-right (leb 4 (paletteOf w)) _ q))
 
-pub tile-long : (tiles : List ℕ) (n : ℕ) → length tiles ≡ 8192 → n ≤ 255 → length (tilePart tiles n) ≡ 32
+pub tile-long : (tiles : List ℕ) (n : ℕ) → length tiles ≡ tilesBytes → n ≤ 255 → length (tilePart tiles n) ≡ 32
 unfolding tilePart
-tile-long tiles n h k = rw (eq-eqb (length tiles) 8192 h, le-leb n 255 k) (simp (length-take, length-drop) (omega arith))
+tile-long tiles n h k = rw (eq-eqb (length tiles) tilesBytes h, le-leb n 255 k) (simp (length-take, length-drop) (omega arith))
 
 -- a colour index has four bits
 pub index-lt : (t : List ℕ) (row column : ℕ) → indexIn t row column < 16

@@ -5,11 +5,12 @@ use mathlib.Core.Bool.{cond}
 use mathlib.Core.List.{List, []}
 use lib.Dec.{eqb, leb}
 use lib.ListN.{length, getD, take, drop}
+use Rattle.parts.specs.Parts.{tilesBytes}
 use Rattle.bits.specs.Bit.{bitAt}
 
 -- tile n's 32 bytes of the lent tiles; the empty part exactly if n is over 255 or the tiles are not 8,192 bytes (Refusals by number)
 unfoldable pub tilePart : List ℕ → ℕ → List ℕ
-tilePart tiles n = cond (eqb (length tiles) 8192) (cond (leb n 255) (take 32 (drop (n * 32) tiles)) []) []
+tilePart tiles n = cond (eqb (length tiles) tilesBytes) (cond (leb n 255) (take 32 (drop (n * 32) tiles)) []) []
 
 -- the colour index at a column of a row of a tile's 32 bytes, the leftmost pixel in bit 7
 unfoldable pub indexIn : List ℕ → ℕ → ℕ → ℕ

@@ -5,6 +5,7 @@ ghost use mathlib.Core.Path.{_≡_};
 ghost use Prim.Native.Nat.{_<_};
 ghost use mathlib.Core.Bool.{true};
 ghost use lib.ListN.{length};
+ghost use Rattle.parts.specs.Parts.{tilesBytes, borderMapBytes, borderPalettesBytes};
 ghost use Rattle.bits.specs.Bit.{bitAt};
 ghost use Rattle.border.specs.Tile.{tilePart, indexIn};
 ghost use Rattle.border.specs.Border.{entryAt, draws, flipped, indexOf, inPalette, borderAt, colourOf};
@@ -16,7 +17,7 @@ pub enum BorderColor {
 
 // The border's colour at column x and row y of the picture.
 pub fn color_at(tiles: &[u8], map: &[u8], palettes: &[u8], x: usize, y: usize) -> BorderColor
-    requires { ⌜ (length (now tiles) ≡ 8192) × (length (now map) ≡ 1792) × (length (now palettes) ≡ 96) ⌝ }
+    requires { ⌜ (length (now tiles) ≡ tilesBytes) × (length (now map) ≡ borderMapBytes) × (length (now palettes) ≡ borderPalettesBytes) ⌝ }
     requires { ⌜ (x < 256) × (y < 224) ⌝ }
     ensures { λ r. ⌜ colourOf r ≡ borderAt (now (tiles .entry)) (now (map .entry)) (now (palettes .entry)) x y ⌝ }
 {
@@ -29,7 +30,7 @@ pub fn color_at(tiles: &[u8], map: &[u8], palettes: &[u8], x: usize, y: usize) -
 }
 
 pub fn map_entry(map: &[u8], column: usize, row: usize) -> BorderMapEntry
-    requires { ⌜ (length (now map) ≡ 1792) × (column < 32) × (row < 28) ⌝ }
+    requires { ⌜ (length (now map) ≡ borderMapBytes) × (column < 32) × (row < 28) ⌝ }
     ensures { λ r. ⌜ r .0 ≡ entryAt (now (map .entry)) column row ⌝ }
 {
     let at = (row * 32 + column) * 2;
@@ -38,7 +39,7 @@ pub fn map_entry(map: &[u8], column: usize, row: usize) -> BorderMapEntry
 
 // The colour index that an entry shows at column x of row y of its cell.
 fn index(tiles: &[u8], entry: BorderMapEntry, x: usize, y: usize) -> usize
-    requires { ⌜ (length (now tiles) ≡ 8192) × (x < 8) × (y < 8) ⌝ }
+    requires { ⌜ (length (now tiles) ≡ tilesBytes) × (x < 8) × (y < 8) ⌝ }
     ensures { λ r. ⌜ (r ≡ indexOf (now (tiles .entry)) (entry .0) x y) × (r < 16) ⌝ }
 {
     if draws(entry) {
@@ -76,7 +77,7 @@ pub fn flipped(flip: bool, k: usize) -> usize
 pub fn tile(tiles: &[u8], n: usize) -> &[u8]
     ensures { λ r. ⌜ now r ≡ tilePart (now (tiles .entry)) n ⌝ }
 {
-    if tiles.len() != 8192 {
+    if tiles.len() != parts::TILES_BYTES {
         return &tiles[..0];
     }
     if n > 255 {
@@ -108,7 +109,7 @@ fn bit(b: u8, k: usize) -> usize
 
 // Colour i of an entry's palette.
 fn in_palette(palettes: &[u8], entry: BorderMapEntry, i: usize) -> Rgb555
-    requires { ⌜ (length (now palettes) ≡ 96) × (i < 16) ⌝ }
+    requires { ⌜ (length (now palettes) ≡ borderPalettesBytes) × (i < 16) ⌝ }
     requires { ⌜ draws (entry .0) ≡ true ⌝ }
     ensures { λ r. ⌜ r .0 ≡ inPalette (now (palettes .entry)) (entry .0) i ⌝ }
 {

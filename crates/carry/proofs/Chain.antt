@@ -4,6 +4,7 @@ use mathlib.Core.Path.{_≡_, refl, sym, ap, _∙_, subst, subst⁻¹}
 use mathlib.Core.List.{List}
 use Prim.Native.Nat.{ℕ, _<_}
 use lib.ListN.{length, getD}
+use Rattle.parts.specs.Parts.{mapBytes, filesBytes}
 use Rattle.attributes.specs.Data.{Whole}
 use Rattle.palettes.specs.Palettes as palette
 use Rattle.palettes.proofs.Lengths.{length-pal-set}
@@ -63,14 +64,14 @@ unmasking flags s g = withoutMask flags g
 pub taking-kept : (d : List ℕ) → Kept (taking d)
 taking-kept d = record { good = λ s g hs h. palettes-good g (palette.palSet d (s .system)) h (length-pal-set d (s .system) (hs .system)) }
 
-pub filing-kept : (f : List ℕ → List ℕ → List ℕ) → ((s m : List ℕ) → length s ≡ 4050 → length m ≡ 90 → length (f s m) ≡ 90) → Kept (filing f)
+pub filing-kept : (f : List ℕ → List ℕ → List ℕ) → ((s m : List ℕ) → length s ≡ filesBytes → length m ≡ mapBytes → length (f s m) ≡ mapBytes) → Kept (filing f)
 filing-kept f l = record { good = λ s g hs h. map-good g (f (s .files) (g .map)) h (l (s .files) (g .map) (hs .files) (h .map)) }
 
 -- a file leaves ninety bytes
-pub pal-long : (flags : ℕ) (s m : List ℕ) → length s ≡ 4050 → length m ≡ 90 → length (palSetMap flags s m) ≡ 90
+pub pal-long : (flags : ℕ) (s m : List ℕ) → length s ≡ filesBytes → length m ≡ mapBytes → length (palSetMap flags s m) ≡ mapBytes
 pal-long flags s m h e = length-pal-set-map s m h e flags
 
-pub set-long : (flags : ℕ) (s m : List ℕ) → length s ≡ 4050 → length m ≡ 90 → length (attrSetMap flags s m) ≡ 90
+pub set-long : (flags : ℕ) (s m : List ℕ) → length s ≡ filesBytes → length m ≡ mapBytes → length (attrSetMap flags s m) ≡ mapBytes
 set-long flags s m h e = length-attr-set s m h e flags
 
 pub pal-set-done : (b : List ℕ) → Valid b → (d e₁ e₂ e₃ : List ℕ) → e₁ ≡ changedBlock (taking d) b → e₂ ≡ changedBlock (filing (palSetMap (getD d 9 0))) e₁

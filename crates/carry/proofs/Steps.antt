@@ -6,6 +6,7 @@ use mathlib.Core.Option.{Option}
 use Prim.Native.Nat.{ℕ}
 use lib.Dec.{lit<}
 use lib.ListN.{length, replicate, drop, set, length-replicate}
+use Rattle.parts.specs.Parts.{maskAt, indexAt, padsAt, presetOnAt, countdownAt, kindAt, frozenOnAt, presetBytes, palettesAt, palettesBytes, mapAt, mapBytes, captureBytes, frozenAt}
 use Rattle.bits.specs.Over.{part, over}
 use Rattle.commands.specs.Command.{Plain, plain}
 use Rattle.transfer.specs.Pending.{countdownOf, kindOf}
@@ -29,49 +30,49 @@ module _ (b : List ℕ) (v : Valid b) where
   made : Made b (parts (load b))
   made = made-of b (v .tested)
 
-  pub map-put : (ys : List ℕ) → length ys ≡ 90 → over 184 90 ys b ≡ save (changed (λ s g. withMap ys g) (load b))
+  pub map-put : (ys : List ℕ) → length ys ≡ mapBytes → over mapAt mapBytes ys b ≡ save (changed (λ s g. withMap ys g) (load b))
   map-put ys e = unfold withMap in made-save (changed (λ s g. withMap ys g) (load b)) (made-put made 5 (lit< tt) ys e)
 
-  pub pads-put : (i m : ℕ) → set (set b 1 i) 2 m ≡ save (changed (λ s g. withPads i m g) (load b))
+  pub pads-put : (i m : ℕ) → set (set b indexAt i) padsAt m ≡ save (changed (λ s g. withPads i m g) (load b))
   pads-put i m =
-      unfold withPads in made-save (changed (λ s g. withPads i m g) (load b)) (made-set (made-set made 1 i (lit< tt)) 2 m (lit< tt))
+      unfold withPads in made-save (changed (λ s g. withPads i m g) (load b)) (made-set (made-set made indexAt i (lit< tt)) padsAt m (lit< tt))
 
   -- the mask and what is frozen
-  pub mask-put : (m : ℕ) (f : Option (List ℕ)) → SizedIf 5760 f
-      → over 14180 5760 (heldBytes 5760 f) (set (set b 0 m) 12 (isHeld f)) ≡ save (changed (λ s g. withMask m f g) (load b))
+  pub mask-put : (m : ℕ) (f : Option (List ℕ)) → SizedIf captureBytes f
+      → over frozenAt captureBytes (heldBytes captureBytes f) (set (set b maskAt m) frozenOnAt (isHeld f)) ≡ save (changed (λ s g. withMask m f g) (load b))
   mask-put m f h =
       unfold withMask in
       made-save (changed (λ s g. withMask m f g) (load b))
-      (made-put (made-set (made-set made 0 m (lit< tt)) 12 (isHeld f) (lit< tt)) 9 (lit< tt) (heldBytes 5760 f) (held-length 5760 f h))
+      (made-put (made-set (made-set made maskAt m (lit< tt)) frozenOnAt (isHeld f) (lit< tt)) 9 (lit< tt) (heldBytes captureBytes f) (held-length captureBytes f h))
 
-  pub mode-put : (m : ℕ) → set b 0 m ≡ save (changed (λ s g. withMask m (g .frozen) g) (load b))
-  mode-put m = unfold withMask in made-save (changed (λ s g. withMask m (g .frozen) g) (load b)) (made-set made 0 m (lit< tt))
+  pub mode-put : (m : ℕ) → set b maskAt m ≡ save (changed (λ s g. withMask m (g .frozen) g) (load b))
+  mode-put m = unfold withMask in made-save (changed (λ s g. withMask m (g .frozen) g) (load b)) (made-set made maskAt m (lit< tt))
 
   -- the preset ends: the block, its palettes, and those that take their place
-  ended : Made (presetEnded b) (set (set (header (load b)) 9 0 ∷ drop 1 (parts (load b))) 3 (replicate 8 0))
-  ended = made-put (made-set made 9 0 (lit< tt)) 3 (lit< tt) (replicate 8 0) (length-replicate {A = ℕ} 8 0)
+  ended : Made (presetEnded b) (set (set (header (load b)) presetOnAt 0 ∷ drop 1 (parts (load b))) 3 (replicate presetBytes 0))
+  ended = made-put (made-set made presetOnAt 0 (lit< tt)) 3 (lit< tt) (replicate presetBytes 0) (length-replicate {A = ℕ} presetBytes 0)
 
-  pub palettes-left : part 152 32 (presetEnded b) ≡ load b .game .palettes
+  pub palettes-left : part palettesAt palettesBytes (presetEnded b) ≡ load b .game .palettes
   palettes-left = made-get ended 4 (lit< tt)
 
-  pub palettes-put : (ys : List ℕ) → length ys ≡ 32 → over 152 32 ys (presetEnded b) ≡ save (changed (λ s g. withPalettes ys g) (load b))
+  pub palettes-put : (ys : List ℕ) → length ys ≡ palettesBytes → over palettesAt palettesBytes ys (presetEnded b) ≡ save (changed (λ s g. withPalettes ys g) (load b))
   palettes-put ys e =
       unfold withPalettes isHeld heldBytes in
       made-save (changed (λ s g. withPalettes ys g) (load b)) (made-put ended 4 (lit< tt) ys e)
 
-  pub pending-put : (p : Pending) → set (set b 10 (countdownOf p)) 11 (kindOf p) ≡ save (record { port = load b .port; game = load b .game; snes = withPending p (load b .snes) })
+  pub pending-put : (p : Pending) → set (set b countdownAt (countdownOf p)) kindAt (kindOf p) ≡ save (record { port = load b .port; game = load b .game; snes = withPending p (load b .snes) })
   pending-put p =
       unfold withPending in
       made-save (record { port = load b .port; game = load b .game; snes = withPending p (load b .snes) })
-      (made-set (made-set made 10 (countdownOf p) (lit< tt)) 11 (kindOf p) (lit< tt))
+      (made-set (made-set made countdownAt (countdownOf p) (lit< tt)) kindAt (kindOf p) (lit< tt))
 
 -- ---- plain commands
 
 -- one that changes the map alone
-pub map-changed : (c : Plain) (f : List ℕ → List ℕ) → ((g : Game) → plainly c g ≡ withMap (f (g .map)) g) → ((m : List ℕ) → length (f m) ≡ 90)
-    → (b ys : List ℕ) → Valid b → ys ≡ f (part 184 90 b) → over 184 90 ys b ≡ carriedBlock (plain c) b
+pub map-changed : (c : Plain) (f : List ℕ → List ℕ) → ((g : Game) → plainly c g ≡ withMap (f (g .map)) g) → ((m : List ℕ) → length (f m) ≡ mapBytes)
+    → (b ys : List ℕ) → Valid b → ys ≡ f (part mapAt mapBytes b) → over mapAt mapBytes ys b ≡ carriedBlock (plain c) b
 unfolding carriedBlock carried carriedGame carriedSnes
 map-changed c f e l b ys v q =
-    map-put b v ys (ap length q ∙ l (part 184 90 b))
+    map-put b v ys (ap length q ∙ l (part mapAt mapBytes b))
     ∙ ap (λ (m : List ℕ). save (changed (λ s g. withMap m g) (load b))) q
     ∙ (unfold load in ap (λ (g : Game). save (changed (λ s h. g) (load b))) (sym (e (load b .game))))

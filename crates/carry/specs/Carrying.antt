@@ -6,7 +6,7 @@ use mathlib.Core.List.{List}
 use Rattle.commands.specs.Command.{Command}
 use lib.ListN.{length, replicate, set}
 use Rattle.bits.specs.Over.{over}
-use Rattle.layout.specs.Layout.{blockBytes, presetOnAt, presetAt, presetBytes}
+use Rattle.parts.specs.Parts.{presetOnAt, presetAt, presetBytes}
 use Rattle.layout.specs.Block.{load, save}
 use Rattle.layout.specs.Sgb.{Sgb, Game, Snes}
 use Rattle.rules.specs.Carry.{carried}

@@ -10,27 +10,30 @@ ghost use Rattle.commands.specs.Command.{plain, fixed, palPair, attrBlk, attrLi
 ghost use Rattle.commands.specs.Files.{palSetMap, attrSetMap};
 ghost use Rattle.commands.specs.Good.{GoodPlain};
 ghost use Rattle.commands.specs.Told.{toldPlain, toldFixed};
-ghost use Rattle.layout.specs.Layout.{blockBytes};
+ghost use Rattle.parts.specs.Parts.{blockBytes};
 ghost use Rattle.rules.specs.Carry.{withPalettes, withMap, withoutMask};
 ghost use Rattle.carry.specs.Carrying.{Valid, carriedBlock, changedBlock, presetEnded};
 use commands::Command;
 use commands::FixedCommand;
 use commands::PlainCommand;
-use layout::COUNTDOWN;
-use layout::FILES;
-use layout::FROZEN;
-use layout::FROZEN_ON;
-use layout::INDEX;
-use layout::KIND;
-use layout::LIVE;
-use layout::MAP;
-use layout::MASK;
-use layout::PADS;
-use layout::PALETTES;
-use layout::PRESET;
-use layout::PRESET_ON;
-use layout::SYSTEM;
-use layout::TILES;
+use parts::CAPTURE_BYTES;
+use parts::COUNTDOWN;
+use parts::FILES;
+use parts::FROZEN;
+use parts::FROZEN_ON;
+use parts::INDEX;
+use parts::KIND;
+use parts::LIVE;
+use parts::MAP;
+use parts::MAP_BYTES;
+use parts::MASK;
+use parts::PADS;
+use parts::PALETTES;
+use parts::PALETTES_BYTES;
+use parts::PRESET;
+use parts::PRESET_ON;
+use parts::SYSTEM;
+use parts::TILES;
 use transfer::pending::Transfer;
 
 // The attribute commands get the packed map.
@@ -104,7 +107,7 @@ fn freeze(block: &mut [u8])
     requires { ⌜ Valid (now block) ⌝ }
     ensures { λ _. ⌜ now (block .exit) ≡ carriedBlock (fixed freeze) (now (block .entry)) ⌝ }
 {
-    let mut shot = [0u8; 5760];
+    let mut shot = [0u8; CAPTURE_BYTES];
     bits::put(&mut shot, 0, &block[LIVE..FROZEN]);
     block[MASK] = 1;
     block[FROZEN_ON] = 1;
@@ -125,7 +128,7 @@ fn take_palettes(block: &mut [u8], d: &[u8])
     requires { ⌜ Valid (now block) × Whole (now d) ⌝ }
     ensures { λ _. ⌜ now (block .exit) ≡ changedBlock (λ s g. withPalettes (palette.palSet (now (d .entry)) (s .system)) g) (now (block .entry)) ⌝ }
 {
-    let mut chosen = [0u8; 32];
+    let mut chosen = [0u8; PALETTES_BYTES];
     palettes::pal_set(&mut chosen, &block[SYSTEM..FILES], d);
     end_preset(block);
     bits::put(block, PALETTES, &chosen);
@@ -136,7 +139,7 @@ fn pal_set_file(block: &mut [u8], flags: u8)
     requires { ⌜ Valid (now block) ⌝ }
     ensures { λ _. ⌜ now (block .exit) ≡ changedBlock (λ s g. withMap (palSetMap flags (s .files) (g .map)) g) (now (block .entry)) ⌝ }
 {
-    let mut map = [0u8; 90];
+    let mut map = [0u8; MAP_BYTES];
     bits::put(&mut map, 0, &block[MAP..SYSTEM]);
     commands::pal_set_map(&mut map, &block[FILES..LIVE], flags);
     bits::put(block, MAP, &map);
@@ -147,7 +150,7 @@ fn attr_set_file(block: &mut [u8], flags: u8)
     requires { ⌜ Valid (now block) ⌝ }
     ensures { λ _. ⌜ now (block .exit) ≡ changedBlock (λ s g. withMap (attrSetMap flags (s .files) (g .map)) g) (now (block .entry)) ⌝ }
 {
-    let mut map = [0u8; 90];
+    let mut map = [0u8; MAP_BYTES];
     bits::put(&mut map, 0, &block[MAP..SYSTEM]);
     commands::attr_set_map(&mut map, &block[FILES..LIVE], flags);
     bits::put(block, MAP, &map);

@@ -9,17 +9,18 @@ use borrow.Author.Tests.{ltb-true}
 use lib.Bits.{bitAnd, and-le-r, and-mod}
 use lib.Dec.{ltb, eqb}
 use lib.ListN.{length}
+use Rattle.parts.specs.Parts.{mapBytes, filesBytes}
 use Rattle.bits.specs.Bit.{bitOf}
 use Rattle.bits.specs.Over.{part}
 use Rattle.bits.proofs.Every.{same-below₂}
 use Rattle.bits.proofs.Overs.{length-part}
-use Rattle.attribute_map.specs.Map.{mapBytes, unpack}
+use Rattle.attribute_map.specs.Map.{unpack}
 use Rattle.attribute_map.proofs.Packing.{length-pack}
 use Rattle.attributes.specs.Blk.{blkMap}
 use Rattle.attributes.specs.Chr.{chrMap}
 use Rattle.attributes.specs.Div.{divMap}
 use Rattle.attributes.specs.Lin.{linMap}
-use Rattle.commands.specs.Files.{fileCount, filesBytes, fileOf, attrSetMap, palSetMap}
+use Rattle.commands.specs.Files.{fileCount, fileOf, attrSetMap, palSetMap}
 use Rattle.commands.specs.Maps.{attrBlk, attrLin, attrDiv, attrChr}
 use Rattle.commands.specs.Mask.{cancelled}
 use Rattle.commands.specs.Pads.{mltIndex}

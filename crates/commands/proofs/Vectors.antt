@@ -4,10 +4,11 @@ use mathlib.Core.Bool.{true}
 use mathlib.Core.List.{List, _∷_}
 use Prim.Native.Nat.{ℕ}
 use lib.ListN.{set, replicate}
+use Rattle.parts.specs.Parts.{mapBytes}
 use Rattle.bits.specs.Bit.{bitOf}
 use Rattle.bits.specs.Pair.{pairOf, packed}
 use Rattle.bits.specs.Tab.{tab, tabFrom}
-use Rattle.attribute_map.specs.Map.{mapBytes, rowsFrom, grid, pack, unpack}
+use Rattle.attribute_map.specs.Map.{rowsFrom, grid, pack, unpack}
 use Rattle.attributes.specs.Data.{steps}
 use Rattle.attributes.specs.Blk.{onLine, blkPick, blkCell, setAt, blkMap}
 use Rattle.transfer.specs.declared.pending.Transfer.the-variants.{BorderTiles}

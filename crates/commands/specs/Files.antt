@@ -3,15 +3,12 @@ use mathlib.Core.Bool.{cond}
 use mathlib.Core.List.{List}
 use Prim.Native.Nat.{ℕ, _*_, _%_}
 use lib.Dec.{ltb}
+use Rattle.parts.specs.Parts.{mapBytes}
 use Rattle.bits.specs.Bit.{bitOf}
 use Rattle.bits.specs.Over.{part}
-use Rattle.attribute_map.specs.Map.{mapBytes}
 
 abbrev pub fileCount : ℕ
 fileCount = 45
-
-abbrev pub filesBytes : ℕ
-filesBytes = 4050
 
 -- file n, or the map as it is where there is no such file
 unfoldable pub fileOf : ℕ → List ℕ → List ℕ → List ℕ

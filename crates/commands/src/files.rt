@@ -1,8 +1,8 @@
 // The packed attribute map after a command that asks for a file.
 ghost use mathlib.Core.Path.{_≡_};
 ghost use lib.ListN.{length};
-ghost use Rattle.attribute_map.specs.Map.{mapBytes};
-ghost use Rattle.commands.specs.Files.{filesBytes, attrSetMap, palSetMap};
+ghost use Rattle.parts.specs.Parts.{mapBytes, filesBytes};
+ghost use Rattle.commands.specs.Files.{attrSetMap, palSetMap};
 
 // PAL_SET, with its byte d9: bit 7 asks for the file.
 pub fn pal_set_map(map: &mut [u8], files: &[u8], flags: u8)
@@ -21,7 +21,7 @@ pub fn attr_set_map(map: &mut [u8], files: &[u8], flags: u8)
 {
     let n = bits::wide(flags & 0x3F);
     if n < 45 {
-        let at = 90 * n;
-        bits::put(map, 0, &files[at..at + 90]);
+        let at = parts::MAP_BYTES * n;
+        bits::put(map, 0, &files[at..at + parts::MAP_BYTES]);
     }
 }

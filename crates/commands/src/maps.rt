@@ -1,7 +1,7 @@
 // The attribute commands on the ninety packed bytes.
 ghost use mathlib.Core.Path.{_≡_};
 ghost use lib.ListN.{length};
-ghost use Rattle.attribute_map.specs.Map.{mapBytes};
+ghost use Rattle.parts.specs.Parts.{mapBytes};
 ghost use Rattle.attributes.specs.Data.{Whole};
 ghost use Rattle.commands.specs.Maps.{attrBlk, attrLin, attrDiv, attrChr};
 

@@ -1,12 +1,13 @@
 // The receiver and the encoder: document 01, Pairs on each edge, "A program runs the rest", as far as it is about packets.
 ghost use mathlib.Core.Path.{_≡_};
 ghost use lib.ListN.{length};
+ghost use Rattle.parts.specs.Parts.{storeBytes};
 use libc::STDOUT_FILENO;
 use receiver::Receiver;
 use run::Lines;
 
 pub fn examples(store: &mut [u8], pulses: &mut [u8])
-    requires { ⌜ length (now store) ≡ 112 ⌝ }
+    requires { ⌜ length (now store) ≡ storeBytes ⌝ }
 {
     // a start pulse, a release and a data bit: bit index 1
     show(&[0x00, 0x30, 0x20], store);
@@ -20,7 +21,7 @@ pub fn examples(store: &mut [u8], pulses: &mut [u8])
 
 // Some writes as `post_boot` takes them, with both lines high: the bit index they leave, and the command that they complete.
 fn show(writes: &[u8], store: &mut [u8])
-    requires { ⌜ length (now store) ≡ 112 ⌝ }
+    requires { ⌜ length (now store) ≡ storeBytes ⌝ }
 {
     let lines = Lines {
         p15: true,

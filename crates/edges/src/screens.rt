@@ -1,6 +1,7 @@
 // Screens: document 01, Pairs on each edge, "a transfer lands at the third screen".
 ghost use mathlib.Core.Path.{_≡_};
 ghost use lib.ListN.{length};
+ghost use Rattle.parts.specs.Parts.{captureBytes, halfBytes};
 use libc::STDOUT_FILENO;
 use transfer::pending::Landed;
 use transfer::pending::Pending;
@@ -8,7 +9,7 @@ use transfer::pending::Transfer;
 
 // CHR_TRN to the upper half, and three screens whose first eight pixels are 0 1 2 3 0 1 2 3: planes 55 and 33.
 pub fn examples(screen: &mut [u8], part: &mut [u8])
-    requires { ⌜ (length (now screen) ≡ 5760) × (length (now part) ≡ 4096) ⌝ }
+    requires { ⌜ (length (now screen) ≡ captureBytes) × (length (now part) ≡ halfBytes) ⌝ }
 {
     screen[0] = 0x1B;
     screen[1] = 0x1B;
@@ -23,7 +24,7 @@ pub fn examples(screen: &mut [u8], part: &mut [u8])
 
 // What lands, and what the part then starts with.
 fn show(pending: Pending, screen: &[u8], part: &mut [u8]) -> Pending
-    requires { ⌜ (length (now screen) ≡ 5760) × (length (now part) ≡ 4096) ⌝ }
+    requires { ⌜ (length (now screen) ≡ captureBytes) × (length (now part) ≡ halfBytes) ⌝ }
 {
     let Landed::Page(transfer) = pending.landing() else {
         io::write_all(STDOUT_FILENO, b"nothing lands, the part starts ");

@@ -11,13 +11,12 @@ use lib.Seq.{drop-drop, take-at, drop-at}
 use Rattle.bits.specs.Over.{over}
 use Rattle.receiver.specs.Receive.{idle, stageNumber}
 use Rattle.receiver.specs.Store.{bytesOf}
-use Rattle.layout.proofs.Cut.{sum}
 use Rattle.layout.proofs.Freshes.{fresh-good}
 use Rattle.layout.proofs.Goods.{length-save}
 use Rattle.layout.proofs.Made.{Made, made-put, made-set, made-save}
 use Rattle.layout.specs.Block.{flat, parts, isHeld, heldBytes, save}
 use Rattle.layout.specs.Fresh.{wordBytes, times, fresh, new, postBoot}
-use Rattle.layout.specs.Layout.{sizes}
+use Rattle.parts.specs.Parts.{blockBytes, p15At, bothAt, presetOnAt, presetAt, presetBytes, systemAt, systemBytes, sizes, sum}
 use Rattle.transfer.specs.Pending.{countdownOf, kindOf}
 
 abbrev zero-parts : List ℕ → List (List ℕ)
@@ -59,19 +58,19 @@ fill-turn n p d h =
 
 -- ---- the blocks
 
-pub new-made : set (over 274 4096 (times 512 (wordBytes (0x7FFF ∷ 0x56B5 ∷ 0x294A ∷ 0x0000 ∷ [])))
-    (over 144 8 (wordBytes (0x67BF ∷ 0x265B ∷ 0x10B5 ∷ 0x2866 ∷ [])) (replicate 30020 0))) 9 1 ≡ new
+pub new-made : set (over systemAt systemBytes (times 512 (wordBytes (0x7FFF ∷ 0x56B5 ∷ 0x294A ∷ 0x0000 ∷ [])))
+    (over presetAt presetBytes (wordBytes (0x67BF ∷ 0x265B ∷ 0x10B5 ∷ 0x2866 ∷ [])) (replicate blockBytes 0))) presetOnAt 1 ≡ new
 unfolding new fresh idle wordBytes bytesOf stageNumber isHeld heldBytes countdownOf kindOf
 new-made =
-    let m0 : Made (replicate 30020 0) (zero-parts sizes) = record { eq = flat-zeros sizes; fit = sized-zeros sizes } in
+    let m0 : Made (replicate blockBytes 0) (zero-parts sizes) = record { eq = flat-zeros sizes; fit = sized-zeros sizes } in
     let m1 = made-put m0 3 (lit< tt) (wordBytes (0x67BF ∷ 0x265B ∷ 0x10B5 ∷ 0x2866 ∷ [])) refl in
     let m2 = made-put m1 6 (lit< tt) (times 512 (wordBytes (0x7FFF ∷ 0x56B5 ∷ 0x294A ∷ 0x0000 ∷ []))) (length-times 512 _ refl) in
-    made-save (fresh false) (made-set m2 9 1 (lit< tt))
+    made-save (fresh false) (made-set m2 presetOnAt 1 (lit< tt))
 
-pub post-boot-made : set (set new 3 1) 4 1 ≡ postBoot
+pub post-boot-made : set (set new p15At 1) bothAt 1 ≡ postBoot
 unfolding new postBoot fresh save
 post-boot-made = refl
 
-pub new-long : length new ≡ 30020
+pub new-long : length new ≡ blockBytes
 unfolding new
 new-long = length-save (fresh false) (fresh-good false)

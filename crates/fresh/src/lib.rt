@@ -5,7 +5,7 @@ ghost use mathlib.Core.List.{[], _∷_};
 ghost use Prim.Native.Nat.{_+_, _≤_};
 ghost use lib.ListN.{length};
 ghost use Rattle.bits.specs.Over.{over};
-ghost use Rattle.layout.specs.Layout.{blockBytes, systemBytes};
+ghost use Rattle.parts.specs.Parts.{blockBytes, systemBytes};
 ghost use Rattle.layout.specs.Fresh as spec;
 use bits::clear;
 use bits::high_byte;
@@ -16,9 +16,9 @@ pub fn new(block: &mut [u8])
     ensures { λ _. ⌜ now (block .exit) ≡ spec.new ⌝ }
 {
     clear(block);
-    put_palette(block, layout::PRESET, 0x67BF, 0x265B, 0x10B5, 0x2866);
-    fill_system(&mut block[layout::SYSTEM..layout::FILES]);
-    block[layout::PRESET_ON] = 1;
+    put_palette(block, parts::PRESET, 0x67BF, 0x265B, 0x10B5, 0x2866);
+    fill_system(&mut block[parts::SYSTEM..parts::FILES]);
+    block[parts::PRESET_ON] = 1;
 }
 
 pub fn post_boot(block: &mut [u8])
@@ -26,8 +26,8 @@ pub fn post_boot(block: &mut [u8])
     ensures { λ _. ⌜ now (block .exit) ≡ spec.postBoot ⌝ }
 {
     new(block);
-    block[layout::P15] = 1;
-    block[layout::BOTH] = 1;
+    block[parts::P15] = 1;
+    block[parts::BOTH] = 1;
 }
 
 // The 512 system palettes, all alike.

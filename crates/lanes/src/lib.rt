@@ -4,6 +4,7 @@ use colour::BorderMapEntry;
 ghost use mathlib.Core.Path.{_≡_};
 ghost use Prim.Native.Nat.{_<_, _≤_, _+_};
 ghost use lib.ListN.{length};
+ghost use Rattle.parts.specs.Parts.{tilesBytes};
 ghost use Rattle.bits.specs.Tab.{tab};
 ghost use Rattle.bits.specs.Paint.{Painted};
 ghost use Rattle.border.specs.Tile.{indexIn};
@@ -20,7 +21,7 @@ pub fn nibble(l: u32, j: usize) -> usize
 
 // The eight indices that an entry shows in row y of its cell; all 0 where it draws nothing.
 pub fn indices(tiles: &[u8], spreads: &[u32], entry: BorderMapEntry, y: usize) -> u32
-    requires { ⌜ (length (now tiles) ≡ 8192) × (y < 8) ⌝ }
+    requires { ⌜ (length (now tiles) ≡ tilesBytes) × (y < 8) ⌝ }
     requires { ⌜ now spreads ≡ tab 512 spreadOf ⌝ }
     ensures { λ r. ⌜ r ≡ lanes 8 (λ x. indexOf (now (tiles .entry)) (entry .0) x y) ⌝ }
 {

@@ -8,10 +8,7 @@ use lib.ListN.{length, take, drop, getD, set, length-append, length-take, length
 use lib.Seq.{drop-drop, take-at, drop-at, drop-cons}
 use Rattle.bits.specs.Over.{part, over}
 use Rattle.layout.specs.Block.{flat}
-
-abbrev pub sum : List ℕ → ℕ
-sum [] = 0
-sum (n ∷ ns) = n + sum ns
+use Rattle.parts.specs.Parts.{sum}
 
 abbrev pub cut : ℕ → List ℕ → List ℕ → List (List ℕ)
 cut at [] b = []

@@ -9,7 +9,7 @@ use lib.ListN.{length, replicate, length-append, length-replicate}
 use Rattle.bits.specs.Word.{lowByte, highByte}
 use Rattle.bits.proofs.Zeros.{replicate-zeros}
 use Rattle.receiver.specs.Receive.{idle}
-use Rattle.layout.specs.Layout.{storeBytes, palettesBytes, mapBytes, filesBytes, captureBytes, tilesBytes, borderMapBytes, borderPalettesBytes}
+use Rattle.parts.specs.Parts.{storeBytes, palettesBytes, mapBytes, filesBytes, captureBytes, tilesBytes, borderMapBytes, borderPalettesBytes}
 use Rattle.layout.specs.Block.{isHeld}
 use Rattle.layout.specs.Valid.{maskAllows, valid}
 use Rattle.layout.specs.Good.{Good}

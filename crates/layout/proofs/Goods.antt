@@ -18,12 +18,12 @@ use Rattle.receiver.specs.declared.Stage.{Stage}
 use Rattle.receiver.specs.declared.Stage.the-variants.{Idle, Receiving, Awaiting}
 use Rattle.receiver.proofs.Checks.{v3-says, v3-true}
 use Rattle.receiver.proofs.Words.{length-bytes}
-use Rattle.layout.specs.Layout.{maskAt, indexAt, padsAt, p15At, bothAt, stageAt, expectedAt, receivedAt, bitsAt, presetOnAt, countdownAt, kindAt, frozenOnAt, spareAt, spareBytes, headerBytes, packetAt, packetBytes, storeAt, storeBytes, presetAt, presetBytes, palettesAt, palettesBytes, mapAt, mapBytes, systemAt, systemBytes, filesAt, filesBytes, liveAt, captureBytes, frozenAt, tilesAt, tilesBytes, borderMapAt, borderMapBytes, borderPalettesAt, borderPalettesBytes, sizes}
+use Rattle.parts.specs.Parts.{blockBytes, maskAt, indexAt, padsAt, stageAt, presetOnAt, countdownAt, kindAt, frozenOnAt, packetAt, packetBytes, storeAt, storeBytes, presetAt, presetBytes, palettesAt, palettesBytes, mapAt, mapBytes, systemAt, systemBytes, filesAt, filesBytes, liveAt, captureBytes, frozenAt, tilesAt, tilesBytes, borderMapAt, borderMapBytes, borderPalettesAt, borderPalettesBytes, sizes, sum}
 use Rattle.layout.specs.Block.{byte, flag, isSet, isHeld, valueOf, load, save, parts}
 use Rattle.layout.specs.Valid.{v1, v2, v3, v4, v5, v6, maskAllows, validParts, valid}
 use Rattle.layout.specs.Sgb.{Sgb}
 use Rattle.layout.specs.Good.{Good, GoodPort, GoodGame, GoodSnes}
-use Rattle.layout.proofs.Cut.{sum, get-part, length-flat}
+use Rattle.layout.proofs.Cut.{get-part, length-flat}
 use Rattle.layout.proofs.Fields.{set-of-flag, stage-of-number, value-of-bytes, held-number, held-sized, held-length, held-again, pending-good, pending-again, pending-timed, flag-small, held-small, stage-small, held-clear, are-bytesOf}
 use Rattle.layout.proofs.Saved.{Clauses, clauses, two, long-part}
 
@@ -134,7 +134,7 @@ module _ (u : Sgb) (g : Good u) where
         };
   }
 
-  pub length-save : length (save u) ≡ 30020
+  pub length-save : length (save u) ≡ blockBytes
   length-save = unfold save in length-flat (parts u) ∙ ap sum sized
 
   one-kept : v1 (save u) ≡ true
@@ -177,7 +177,7 @@ module _ (u : Sgb) (g : Good u) where
   pub good-valid : valid (save u) ≡ true
   good-valid =
       unfold valid validParts in
-      and-true (eqb (length (save u)) 30020) _ (eq-eqb (length (save u)) 30020 length-save)
+      and-true (eqb (length (save u)) blockBytes) _ (eq-eqb (length (save u)) blockBytes length-save)
       (and-true (v1 (save u)) _ one-kept
       (and-true (v2 (save u)) _ two-kept
       (and-true (v3 (save u)) _ three-kept

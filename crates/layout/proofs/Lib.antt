@@ -4,4 +4,3 @@ pub mod Saved
 pub mod Goods
 pub mod Freshes
 pub mod Made
-pub mod Starts

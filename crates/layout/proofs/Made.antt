@@ -9,12 +9,12 @@ use lib.ListN.{length, take, getD, set, length-set, List·getD-append}
 use lib.Seq.{set-append-left}
 use Rattle.bits.specs.Over.{part, over}
 use Rattle.bits.proofs.Overs.{over-within}
-use Rattle.layout.specs.Layout.{blockBytes, sizes}
+use Rattle.parts.specs.Parts.{blockBytes, headerBytes, sizes, sum}
 use Rattle.layout.specs.Block.{flat, parts, load, save}
 use Rattle.layout.specs.Valid.{valid}
 use Rattle.layout.specs.Sgb.{Sgb}
 use Rattle.layout.specs.Good.{Good}
-use Rattle.layout.proofs.Cut.{sum, get-part, put-part, put-sized, length-flat}
+use Rattle.layout.proofs.Cut.{get-part, put-part, put-sized, length-flat}
 use Rattle.layout.proofs.Saved.{clauses, save-load}
 use Rattle.layout.proofs.Goods.{sized, valid-good}
 
@@ -52,14 +52,14 @@ over-inside b h k i n fits ends ys = over-within (sum (take k sizes)) (getD size
 
 -- ---- the header
 
-header-long : {b h : List ℕ} {ps : List (List ℕ)} → Made b (h ∷ ps) → length h ≡ 16
+header-long : {b h : List ℕ} {ps : List (List ℕ)} → Made b (h ∷ ps) → length h ≡ headerBytes
 header-long m = ap (λ (l : List ℕ). getD l 0 0) (m .fit)
 
-pub made-set : {b h : List ℕ} {ps : List (List ℕ)} → Made b (h ∷ ps) → (j v : ℕ) → j < 16 → Made (set b j v) (set h j v ∷ ps)
+pub made-set : {b h : List ℕ} {ps : List (List ℕ)} → Made b (h ∷ ps) → (j v : ℕ) → j < headerBytes → Made (set b j v) (set h j v ∷ ps)
 made-set {b} {h} {ps} m j v lt = record {
   eq = ap (λ (l : List ℕ). set l j v) (m .eq) ∙ set-append-left h (flat ps) j v (omega (arith, header-long m));
   fit = ap (λ (n : ℕ). n ∷ map length ps) (length-set h j v) ∙ m .fit;
 }
 
-pub made-byte : {b h : List ℕ} {ps : List (List ℕ)} → Made b (h ∷ ps) → (j : ℕ) → j < 16 → getD b j 0 ≡ getD h j 0
+pub made-byte : {b h : List ℕ} {ps : List (List ℕ)} → Made b (h ∷ ps) → (j : ℕ) → j < headerBytes → getD b j 0 ≡ getD h j 0
 made-byte {b} {h} {ps} m j lt = ap (λ (l : List ℕ). getD l j 0) (m .eq) ∙ List·getD-append h (flat ps) 0 j (omega (arith, header-long m))

@@ -15,17 +15,17 @@ use Rattle.receiver.specs.Store.{bytesOf}
 use Rattle.bits.proofs.Overs.{length-part, getD-part}
 use Rattle.bits.proofs.Tests.{and-left, and-right}
 use Rattle.bits.proofs.Zeros.{zeros-at}
-use Rattle.layout.specs.Layout.{maskAt, indexAt, padsAt, p15At, bothAt, stageAt, expectedAt, receivedAt, bitsAt, presetOnAt, countdownAt, kindAt, frozenOnAt, spareAt, spareBytes, headerBytes, packetAt, packetBytes, storeAt, storeBytes, presetAt, presetBytes, palettesAt, palettesBytes, mapAt, mapBytes, systemAt, systemBytes, filesAt, filesBytes, liveAt, captureBytes, frozenAt, tilesAt, tilesBytes, borderMapAt, borderMapBytes, borderPalettesAt, borderPalettesBytes, sizes}
+use Rattle.parts.specs.Parts.{blockBytes, maskAt, indexAt, padsAt, p15At, bothAt, stageAt, expectedAt, receivedAt, bitsAt, presetOnAt, countdownAt, kindAt, frozenOnAt, spareAt, spareBytes, headerBytes, packetAt, packetBytes, storeAt, storeBytes, presetAt, presetBytes, palettesAt, palettesBytes, mapAt, mapBytes, systemAt, systemBytes, filesAt, filesBytes, liveAt, captureBytes, frozenAt, tilesAt, tilesBytes, borderMapAt, borderMapBytes, borderPalettesAt, borderPalettesBytes, sizes}
 use Rattle.layout.specs.Block.{byte, isSet, valueOf, held, load, save, flat, parts, header, heldBytes}
 use Rattle.layout.specs.Valid.{v1, v2, v3, v4, v5, v6, maskAllows, validParts, valid}
 use Rattle.layout.specs.Sgb.{Sgb}
 use Rattle.layout.specs.Good.{Good}
-use Rattle.layout.proofs.Cut.{sum, cut, flat-cut, heads-eq, get-part}
+use Rattle.layout.proofs.Cut.{cut, flat-cut, heads-eq, get-part}
 use Rattle.layout.proofs.Fields.{flag-of-set, number-of-stage, bytes-of-value, held-number, held-bytes, pending-bytes}
 
 -- what a valid block is, by name
 pub record Clauses (b : List ℕ) : Type 0 where
-  pub long : length b ≡ 30020
+  pub long : length b ≡ blockBytes
   pub one : v1 b ≡ true
   pub two : v2 b ≡ true
   pub three : v3 b ≡ true
@@ -36,13 +36,13 @@ pub record Clauses (b : List ℕ) : Type 0 where
 pub clauses : (b : List ℕ) → valid b ≡ true → Clauses b
 unfolding valid validParts
 clauses b e =
-    let p : (v1 b && (v2 b && (v3 b && (v4 b && (v5 b && v6 b))))) ≡ true = and-right (eqb (length b) 30020) _ e in
+    let p : (v1 b && (v2 b && (v3 b && (v4 b && (v5 b && v6 b))))) ≡ true = and-right (eqb (length b) blockBytes) _ e in
     let q : (v2 b && (v3 b && (v4 b && (v5 b && v6 b)))) ≡ true = and-right (v1 b) _ p in
     let r : (v3 b && (v4 b && (v5 b && v6 b))) ≡ true = and-right (v2 b) _ q in
     let s : (v4 b && (v5 b && v6 b)) ≡ true = and-right (v3 b) _ r in
     let t : (v5 b && v6 b) ≡ true = and-right (v4 b) _ s in
     record {
-      long = eqb-true (length b) 30020 (and-left (eqb (length b) 30020) _ e);
+      long = eqb-true (length b) blockBytes (and-left (eqb (length b) blockBytes) _ e);
       one = and-left (v1 b) _ p;
       two = and-left (v2 b) _ q;
       three = and-left (v3 b) _ r;
@@ -82,8 +82,8 @@ module _ (b : List ℕ) (c : Clauses b) where
   pub two : Flags b
   two = flags b (c .two)
 
-  spare-at : (k : ℕ) → k < 3 → 0 ≡ byte (13 + k) b
-  spare-at k h = sym (zeros-at (part spareAt spareBytes b) (two .spare) k) ∙ getD-part 13 3 b k h
+  spare-at : (k : ℕ) → k < spareBytes → 0 ≡ byte (spareAt + k) b
+  spare-at k h = sym (zeros-at (part spareAt spareBytes b) (two .spare) k) ∙ getD-part spareAt spareBytes b k h
 
   stage-small : leb (byte stageAt b) 2 ≡ true
   stage-small = unfold v3 in and-left (leb (byte stageAt b) 2) _ (c .three)
@@ -95,8 +95,8 @@ module _ (b : List ℕ) (c : Clauses b) where
   header-back =
       unfold load in
       (λ t.
-      byte 0 b ∷ byte 1 b ∷ byte 2 b ∷ flag-of-set (byte p15At b) (two .p15) t ∷ flag-of-set (byte bothAt b) (two .both) t
-      ∷ number-of-stage (byte stageAt b) stage-small t ∷ byte 6 b ∷ byte 7 b ∷ byte 8 b
+      byte maskAt b ∷ byte indexAt b ∷ byte padsAt b ∷ flag-of-set (byte p15At b) (two .p15) t ∷ flag-of-set (byte bothAt b) (two .both) t
+      ∷ number-of-stage (byte stageAt b) stage-small t ∷ byte expectedAt b ∷ byte receivedAt b ∷ byte bitsAt b
       ∷ held-number (byte presetOnAt b) (part presetAt presetBytes b) (two .preset) t
       ∷ pending-bytes (byte countdownAt b) (byte kindAt b) (unfold v4 in c .four) .0 t
       ∷ pending-bytes (byte countdownAt b) (byte kindAt b) (unfold v4 in c .four) .1 t
@@ -104,7 +104,7 @@ module _ (b : List ℕ) (c : Clauses b) where
       ∷ spare-at 0 (lit< tt) t ∷ spare-at 1 (lit< tt) t ∷ spare-at 2 (lit< tt) t ∷ [])
       ∙ ap (take 16) (heads-eq 16 0 b (omega (arith, c .long)))
 
-  pub long-part : (at n : ℕ) → at + n ≤ 30020 → length (part at n b) ≡ n
+  pub long-part : (at n : ℕ) → at + n ≤ blockBytes → length (part at n b) ≡ n
   long-part at n h = length-part at n b (omega (arith, c .long))
 
   packet-back : bytesOf packetBytes (valueOf (part packetAt packetBytes b)) ≡ part packetAt packetBytes b

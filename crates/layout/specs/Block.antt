@@ -11,7 +11,7 @@ use Rattle.receiver.specs.Store.{bytesOf}
 use Rattle.receiver.specs.declared.Stage.{Stage}
 use Rattle.receiver.specs.declared.Stage.the-variants.{Idle, Receiving, Awaiting}
 use Rattle.transfer.specs.Pending.{countdownOf, kindOf, pendingOf}
-use Rattle.layout.specs.Layout.{maskAt, indexAt, padsAt, p15At, bothAt, stageAt, expectedAt, receivedAt, bitsAt, presetOnAt, countdownAt, kindAt, frozenOnAt, packetAt, packetBytes, storeAt, storeBytes, presetAt, presetBytes, palettesAt, palettesBytes, mapAt, mapBytes, systemAt, systemBytes, filesAt, filesBytes, liveAt, captureBytes, frozenAt, tilesAt, tilesBytes, borderMapAt, borderMapBytes, borderPalettesAt, borderPalettesBytes}
+use Rattle.parts.specs.Parts.{maskAt, indexAt, padsAt, p15At, bothAt, stageAt, expectedAt, receivedAt, bitsAt, presetOnAt, countdownAt, kindAt, frozenOnAt, packetAt, packetBytes, storeAt, storeBytes, presetAt, presetBytes, palettesAt, palettesBytes, mapAt, mapBytes, systemAt, systemBytes, filesAt, filesBytes, liveAt, captureBytes, frozenAt, tilesAt, tilesBytes, borderMapAt, borderMapBytes, borderPalettesAt, borderPalettesBytes}
 use Rattle.layout.specs.Sgb.{Sgb, Game, Snes}
 
 -- ---- from bytes

@@ -8,7 +8,7 @@ use lib.ListN.{replicate}
 use Rattle.bits.specs.Word.{lowByte, highByte}
 use Rattle.receiver.specs.Receive.{idle}
 use Rattle.transfer.specs.declared.pending.Pending.the-variants.{Nothing}
-use Rattle.layout.specs.Layout.{storeBytes, palettesBytes, mapBytes, filesBytes, captureBytes, tilesBytes, borderMapBytes, borderPalettesBytes}
+use Rattle.parts.specs.Parts.{storeBytes, palettesBytes, mapBytes, filesBytes, captureBytes, tilesBytes, borderMapBytes, borderPalettesBytes}
 use Rattle.layout.specs.Block.{save}
 use Rattle.layout.specs.Sgb.{Sgb}
 

@@ -11,7 +11,7 @@ use Rattle.receiver.specs.Port.{Port}
 use Rattle.receiver.specs.Valid.{V3}
 use Rattle.transfer.specs.declared.pending.Pending.{Pending}
 use Rattle.transfer.specs.declared.pending.Pending.the-variants.{Nothing, In}
-use Rattle.layout.specs.Layout.{storeBytes, presetBytes, palettesBytes, mapBytes, systemBytes, filesBytes, captureBytes, tilesBytes, borderMapBytes, borderPalettesBytes}
+use Rattle.parts.specs.Parts.{storeBytes, presetBytes, palettesBytes, mapBytes, systemBytes, filesBytes, captureBytes, tilesBytes, borderMapBytes, borderPalettesBytes}
 use Rattle.layout.specs.Block.{isHeld}
 use Rattle.layout.specs.Valid.{maskAllows}
 use Rattle.layout.specs.Sgb.{Sgb, Game, Snes}

@@ -1,4 +1,3 @@
-pub mod Layout
 pub mod Sgb
 pub mod Block
 pub mod Valid

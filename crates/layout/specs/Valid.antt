@@ -10,7 +10,7 @@ use lib.Pow.{areBytes}
 use Rattle.bits.specs.Over.{part}
 use Rattle.bits.specs.Zero.{zeros}
 use Rattle.receiver.specs.Valid.{v3 as receiverValid}
-use Rattle.layout.specs.Layout.{blockBytes, maskAt, indexAt, padsAt, p15At, bothAt, stageAt, presetOnAt, countdownAt, kindAt, frozenOnAt, spareAt, spareBytes, packetAt, packetBytes, presetAt, presetBytes, frozenAt, captureBytes}
+use Rattle.parts.specs.Parts.{blockBytes, maskAt, indexAt, padsAt, p15At, bothAt, stageAt, presetOnAt, countdownAt, kindAt, frozenOnAt, spareAt, spareBytes, packetAt, packetBytes, presetAt, presetBytes, captureBytes, frozenAt}
 use Rattle.layout.specs.Block.{byte, isSet, load}
 
 -- "Bytes 0 and 2 at most 3; byte 1 has no bit outside byte 2."

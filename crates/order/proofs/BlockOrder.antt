@@ -7,7 +7,7 @@ use mathlib.Core.List.{List, [], _∷_}
 use mathlib.Core.Option.{Option}
 use borrow.Author.Tests.{eqb-true}
 use lib.ListN.{length}
-use Rattle.layout.specs.Layout.{captureBytes}
+use Rattle.parts.specs.Parts.{captureBytes}
 use Rattle.layout.specs.Block.{load, save}
 use Rattle.layout.specs.Valid.{valid}
 use Rattle.layout.specs.Good.{Good}

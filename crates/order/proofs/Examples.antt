@@ -7,6 +7,7 @@ use mathlib.Core.Bool.{true, false}
 use mathlib.Core.List.{List, [], _∷_}
 use mathlib.Core.Option.{none, IsSome}
 use lib.ListN.{length, replicate, getD}
+use Rattle.parts.specs.Parts.{captureBytes}
 use Rattle.bits.specs.Bit.{bitOf, bitAt}
 use Rattle.bits.specs.Pair.{pairOf}
 use Rattle.bits.specs.Plane.{byteOf}
@@ -60,7 +61,7 @@ ready b = record {
 
 -- a screen of shade 3 all over
 abbrev shot : List ℕ
-shot = replicate 5760 0xFF
+shot = replicate captureBytes 0xFF
 
 -- the stop pulse, before the screen and after it
 abbrev early : List Event

@@ -10,7 +10,7 @@ use lib.Dec.{eqb}
 use lib.ListN.{length}
 use Rattle.transfer.specs.declared.pending.Landed.{Landed}
 use Rattle.commands.specs.Command.{Command, plain, fixed, Fixed}
-use Rattle.layout.specs.Layout.{captureBytes}
+use Rattle.parts.specs.Parts.{captureBytes}
 use Rattle.layout.specs.Sgb.{Sgb, Snes}
 use Rattle.rules.specs.Write.{written, answer, carries}
 use Rattle.rules.specs.Screen.{shown, landing}

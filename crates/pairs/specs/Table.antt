@@ -3,6 +3,7 @@ use Prim.Native.Nat.{ℕ}
 use mathlib.Core.Bool.{Bool, cond}
 use mathlib.Core.List.{List, [], _∷_, _++_}
 use lib.ListN.{getD, replicate}
+use Rattle.parts.specs.Parts.{mapBytes}
 use Rattle.bits.specs.Pair.{pairOf, packed}
 use Rattle.bits.specs.Plane.{planeOf}
 use Rattle.colour.specs.Colour.{rgb8}
@@ -25,7 +26,7 @@ oneSet set = 0x21 ∷ 1 ∷ set ++ replicate 8 0
 
 -- the packed map whose cells are all 3
 abbrev allThree : List ℕ
-allThree = replicate 90 0xFF
+allThree = replicate mapBytes 0xFF
 
 unfoldable pub table : List (List ℕ × List ℕ)
 table =
@@ -48,5 +49,5 @@ table =
     -- ATTR_BLK control 1, byte 02, corners (3,3) (3,3) sets that cell only, to 2; every cell was 3
     ∷ (attrBlk (oneSet (1 ∷ 0x02 ∷ 3 ∷ 3 ∷ 3 ∷ 3 ∷ [])) allThree, replicate 15 0xFF ++ 0xFE ∷ replicate 74 0xFF)
     -- control 4, byte 10, x1 5, x2 4 sets all to 1
-    ∷ (attrBlk (oneSet (4 ∷ 0x10 ∷ 5 ∷ 0 ∷ 4 ∷ 17 ∷ [])) allThree, replicate 90 0x55)
+    ∷ (attrBlk (oneSet (4 ∷ 0x10 ∷ 5 ∷ 0 ∷ 4 ∷ 17 ∷ [])) allThree, replicate mapBytes 0x55)
     ∷ []

@@ -6,9 +6,10 @@ use native.Mathlib.Numerals.{add-one}
 use native.Mathlib.Omega.{arith}
 use lib.ListN.{length, drop, length-append, drop-of-length-le}
 use lib.Seq.{drop-drop}
+use Rattle.parts.specs.Parts.{palettesBytes, systemBytes}
 use Rattle.bits.specs.Over.{over}
 use Rattle.bits.proofs.Overs.{length-part}
-use Rattle.palettes.specs.Palettes.{paletteBytes, palettesBytes, systemBytes, systemNumber, chosen, palSet}
+use Rattle.palettes.specs.Palettes.{paletteBytes, systemNumber, chosen, palSet}
 use Rattle.bits.proofs.Overs.{over-next}
 
 -- the first i palettes chosen

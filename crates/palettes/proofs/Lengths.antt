@@ -4,9 +4,10 @@ use mathlib.Core.List.{List}
 use Prim.Native.Nat.{ℕ, _+_, _*_, _≤_, _<_}
 use native.Mathlib.Omega.{arith}
 use lib.ListN.{length, length-append}
+use Rattle.parts.specs.Parts.{palettesBytes, systemBytes}
 use Rattle.bits.specs.Over.{part}
 use Rattle.bits.proofs.Overs.{length-over, length-part}
-use Rattle.palettes.specs.Palettes.{paletteBytes, palettesBytes, systemBytes, coloured, shared, palPair, palSet}
+use Rattle.palettes.specs.Palettes.{paletteBytes, coloured, shared, palPair, palSet}
 use Rattle.palettes.proofs.Choosing.{length-chosen}
 
 length-coloured : (p c n from : ℕ) (d pals : List ℕ) → paletteBytes * p + 2 * c + 2 * n ≤ length pals → from + 2 * n ≤ length d → length (coloured p c n from d pals) ≡ length pals

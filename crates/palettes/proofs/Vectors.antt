@@ -2,11 +2,12 @@
 use mathlib.Core.Path.{_≡_, refl}
 use mathlib.Core.List.{[], _∷_, _++_}
 use lib.ListN.{replicate}
+use Rattle.parts.specs.Parts.{palettesBytes}
 use Rattle.bits.specs.Word.{word, wordAt}
 use Rattle.palettes.specs.Palettes.{shared, palPair, systemNumber, chosen, palSet}
 
 -- bytes 1 to 14 are the colours, byte 15 is unused; palettes 1 and 2 keep their colours 1 to 3
-pub pal03 : palPair 0 3 (0x11 ∷ 1 ∷ 2 ∷ 3 ∷ 4 ∷ 5 ∷ 6 ∷ 7 ∷ 8 ∷ 9 ∷ 10 ∷ 11 ∷ 12 ∷ 13 ∷ 14 ∷ 15 ∷ []) (replicate 32 99)
+pub pal03 : palPair 0 3 (0x11 ∷ 1 ∷ 2 ∷ 3 ∷ 4 ∷ 5 ∷ 6 ∷ 7 ∷ 8 ∷ 9 ∷ 10 ∷ 11 ∷ 12 ∷ 13 ∷ 14 ∷ 15 ∷ []) (replicate palettesBytes 99)
     ≡ (1 ∷ 2 ∷ 3 ∷ 4 ∷ 5 ∷ 6 ∷ 7 ∷ 8 ∷ [])
     ++ (1 ∷ 2 ∷ replicate 6 99)
     ++ (1 ∷ 2 ∷ replicate 6 99)

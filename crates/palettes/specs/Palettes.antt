@@ -5,15 +5,9 @@ use Prim.Native.Nat.{ℕ, _+_, _*_, _%_}
 use Rattle.bits.specs.Over.{part, over}
 use Rattle.bits.specs.Word.{wordAt}
 
--- the bytes of a palette, of all four, and of the 512 system palettes
+-- the bytes of one palette
 abbrev pub paletteBytes : ℕ
 paletteBytes = 8
-
-abbrev pub palettesBytes : ℕ
-palettesBytes = 32
-
-abbrev pub systemBytes : ℕ
-systemBytes = 4096
 
 -- the n colours from colour c of palette p on, taken from byte `from` of d
 abbrev pub coloured : ℕ → ℕ → ℕ → ℕ → List ℕ → List ℕ → List ℕ

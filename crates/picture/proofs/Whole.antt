@@ -85,7 +85,7 @@ cells x y =
     (λ t. let h = leb-true 6 (x / 8) t in le-leb 48 x (omega arith)) (λ t. let h = leb-true 48 x t in le-leb 6 (x / 8) (omega arith)) in
     let b : ltb (x / 8) 26 ≡ ltb x 208 = same-test _ _
     (λ t. let h = ltb-true (x / 8) 26 t in lt-ltb x 208 (omega arith)) (λ t. let h = ltb-true x 208 t in lt-ltb (x / 8) 26 (omega arith)) in
-    λ i. (a i && b i) && (leb 40 y && ltb y 184)
+    λ i. (a i && b i) && (leb 40 y && ltb y (40 + 144))
 
 module _ (p : Parts) (border game : List ℕ)
     (eb : border ≡ tab 48 (borderColor (p .borders) (backdropOf (p .palettes) (p .preset) (p .inForce))))
@@ -111,7 +111,7 @@ module _ (p : Parts) (border game : List ℕ)
       → seen x y ≡ screenPixel (p .palettes) (p .preset) (p .inForce) (p .attributes) (p .screen) (p .mode) (x - 48) (y - 40)
   unfolding screenPixel seen
   screen-is x y t =
-      let hx : 48 ≤ x = leb-true 48 x (and-left _ (ltb x 208) (and-left (leb 48 x && ltb x 208) (leb 40 y && ltb y 184) t)) in
+      let hx : 48 ≤ x = leb-true 48 x (and-left _ (ltb x 208) (and-left (leb 48 x && ltb x 208) (leb 40 y && ltb y (40 + 144)) t)) in
       let ec : x / 8 - 6 ≡ (x - 48) / 8 = omega arith in
       let es : screenFrom (x / 8) y + x % 8 ≡ (y - 40) * 160 + (x - 48) = omega arith in
       looked (cellAt (p .attributes) (x / 8 - 6) ((y - 40) / 8)) (pairAt (p .screen) (screenFrom (x / 8) y + x % 8)) (small _ _) (small _ _)

@@ -4,6 +4,7 @@ ghost use mathlib.Core.Path.{_≡_};
 ghost use Prim.Native.Nat.{_<_, _≤_, _+_, _/_, _%_};
 ghost use mathlib.Core.List.{_++_};
 ghost use lib.ListN.{length, drop};
+ghost use Rattle.parts.specs.Parts.{presetBytes, palettesBytes, borderPalettesBytes};
 ghost use Rattle.bits.specs.Tab.{tab};
 ghost use Rattle.bits.specs.Paint.{Painted};
 ghost use Rattle.runs.specs.Runs.{Lent, Tables};
@@ -25,7 +26,7 @@ pub fn row(
     out: &mut [u16],
 )
     requires { ⌜ Lent (now tiles) (now map) (now attributes) (now screen) ⌝ }
-    requires { ⌜ (length (now palettes) ≡ 32) × (length (now preset) ≡ 8) × (length (now borders) ≡ 96) ⌝ }
+    requires { ⌜ (length (now palettes) ≡ palettesBytes) × (length (now preset) ≡ presetBytes) × (length (now borders) ≡ borderPalettesBytes) ⌝ }
     requires { ⌜ (y < 224) × (256 ≤ length (now out)) ⌝ }
     ensures { λ _. ⌜ now (out .exit) ≡ rowOf (parts (now (palettes .entry)) (now (preset .entry)) «in_force» (now (attributes .entry)) (now (screen .entry)) mode (now (tiles .entry)) (now (map .entry)) (now (borders .entry))) y ++ drop 256 (now (out .entry)) ⌝ }
 {
@@ -64,7 +65,7 @@ pub fn picture(
     out: &mut [u16],
 )
     requires { ⌜ Lent (now tiles) (now map) (now attributes) (now screen) ⌝ }
-    requires { ⌜ (length (now palettes) ≡ 32) × (length (now preset) ≡ 8) × (length (now borders) ≡ 96) ⌝ }
+    requires { ⌜ (length (now palettes) ≡ palettesBytes) × (length (now preset) ≡ presetBytes) × (length (now borders) ≡ borderPalettesBytes) ⌝ }
     requires { ⌜ 57344 ≤ length (now out) ⌝ }
     ensures { λ _. ⌜ now (out .exit) ≡ pictureOf (parts (now (palettes .entry)) (now (preset .entry)) «in_force» (now (attributes .entry)) (now (screen .entry)) mode (now (tiles .entry)) (now (map .entry)) (now (borders .entry))) ++ drop 57344 (now (out .entry)) ⌝ }
 {
@@ -160,7 +161,7 @@ fn row_with(
 
 // The tables.
 fn border_colors(out: &mut [u16], borders: &[u8], back: u16)
-    requires { ⌜ (length (now out) ≡ 48) × (length (now borders) ≡ 96) ⌝ }
+    requires { ⌜ (length (now out) ≡ 48) × (length (now borders) ≡ borderPalettesBytes) ⌝ }
     ensures { λ _. ⌜ now (out .exit) ≡ tab 48 (borderColor (now (borders .entry)) back) ⌝ }
 {
     let mut n = 0;
@@ -171,7 +172,7 @@ fn border_colors(out: &mut [u16], borders: &[u8], back: u16)
 }
 
 fn border_color(borders: &[u8], back: u16, n: usize) -> u16
-    requires { ⌜ (length (now borders) ≡ 96) × (n < 48) ⌝ }
+    requires { ⌜ (length (now borders) ≡ borderPalettesBytes) × (n < 48) ⌝ }
     ensures { λ r. ⌜ r ≡ borderColor (now (borders .entry)) back n ⌝ }
 {
     if n % 16 == 0 {
@@ -182,7 +183,7 @@ fn border_color(borders: &[u8], back: u16, n: usize) -> u16
 }
 
 fn game_colors(out: &mut [u16], palettes: &[u8], preset: &[u8], in_force: bool, mode: u8)
-    requires { ⌜ (length (now out) ≡ 16) × (length (now palettes) ≡ 32) × (length (now preset) ≡ 8) ⌝ }
+    requires { ⌜ (length (now out) ≡ 16) × (length (now palettes) ≡ palettesBytes) × (length (now preset) ≡ presetBytes) ⌝ }
     ensures { λ _. ⌜ now (out .exit) ≡ tab 16 (gameColor (now (palettes .entry)) (now (preset .entry)) «in_force» mode) ⌝ }
 {
     let mut k = 0;

@@ -2,12 +2,13 @@
 use mathlib.Core.Bool.{true}
 use mathlib.Core.List.{List, _++_}
 use mathlib.Core.Path.{_≡_, refl, sym, ap, _∙_}
-use Prim.Native.Nat.{ℕ, _*_, _<_, _≤_}
+use Prim.Native.Nat.{ℕ, _+_, _*_, _<_, _≤_}
 use native.Mathlib.Omega.{arith}
 use lib.Bits.{and-le-r}
 use lib.Dec.{lit<}
 use lib.ListN.{length, take, drop, set, replicate, length-set}
 use lib.Seq.{length-take-le}
+use Rattle.parts.specs.Parts.{blockBytes, indexAt, p15At, bothAt, stageAt, expectedAt, receivedAt, bitsAt, packetAt, packetBytes, storeAt, storeBytes}
 use Rattle.bits.proofs.Overs.{length-part, length-over}
 use Rattle.bits.specs.Over.{part, over}
 use Rattle.receiver.proofs.Keeps.{v3-sound, wrote-length}
@@ -43,8 +44,8 @@ none-complete (Packet n) s buffer f e = (refl, refl)
 none-complete (Command n) s buffer f e = absurd (omega arith)
 
 -- a command is: the store is zeros, and the buffer's front has the command
-pub one-complete : (d : Done) (s buffer : List ℕ) → Fits d → length s ≡ 112 → (packetsOf d ≡ 0 → ⊥)
-    → (replicate 112 0 ≡ emptied d s) × (over 0 (16 * packetsOf d) (take (16 * packetsOf d) s) buffer ≡ handed (answerOf d s) buffer)
+pub one-complete : (d : Done) (s buffer : List ℕ) → Fits d → length s ≡ storeBytes → (packetsOf d ≡ 0 → ⊥)
+    → (replicate storeBytes 0 ≡ emptied d s) × (over 0 (16 * packetsOf d) (take (16 * packetsOf d) s) buffer ≡ handed (answerOf d s) buffer)
 unfolding packetsOf emptied answerOf handed
 one-complete Nothing s buffer f l h = absurd (h refl)
 one-complete (Packet n) s buffer f l h = absurd (h refl)
@@ -64,7 +65,7 @@ few-packets Nothing f = lit< tt
 few-packets (Packet n) f = lit< tt
 few-packets (Command n) f = f .1
 
-pub packets-answered : (d : Done) (s : List ℕ) → Fits d → length s ≡ 112 → packetsOf d ≡ packetsIn (answerOf d s)
+pub packets-answered : (d : Done) (s : List ℕ) → Fits d → length s ≡ storeBytes → packetsOf d ≡ packetsIn (answerOf d s)
 unfolding packetsOf answerOf packetsIn
 packets-answered Nothing s f l = refl
 packets-answered (Packet n) s f l = refl
@@ -72,49 +73,49 @@ packets-answered (Command n) s f l = let e : length (take (16 * n) s) ≡ 16 * n
 
 -- ---- the port's bytes
 
-pub length-receiver : (r : Rx) (b : List ℕ) → length b ≡ 30020 → length (putReceiver r b) ≡ 30020
+pub length-receiver : (r : Rx) (b : List ℕ) → length b ≡ blockBytes → length (putReceiver r b) ≡ blockBytes
 unfolding putReceiver
 length-receiver r b h =
-    let m : List ℕ = set (set (set (set b 5 (stageNumber (r .stage))) 6 (r .expected)) 7 (r .received)) 8 (r .bits) in
-    let e : length m ≡ 30020 = simp length-set h in
-    length-over 16 16 (bytesOf 16 (r .packet)) m (omega arith) (length-bytes 16 (r .packet)) ∙ e
+    let m : List ℕ = set (set (set (set b stageAt (stageNumber (r .stage))) expectedAt (r .expected)) receivedAt (r .received)) bitsAt (r .bits) in
+    let e : length m ≡ blockBytes = simp length-set h in
+    length-over packetAt packetBytes (bytesOf packetBytes (r .packet)) m (omega arith) (length-bytes packetBytes (r .packet)) ∙ e
 
 -- with the stage's number n, and the packet's words put one after the other
-module _ (b low : List ℕ) (n : ℕ) (r : Receiver) (long : length b ≡ 30020) (fits : r .lo < 18446744073709551616) (stage : n ≡ stageNumber (r .stage))
-    (first : low ≡ over 16 8 (bytesOf 8 (r .lo)) (set (set (set (set b 5 n) 6 (r .expected)) 7 (r .received)) 8 (r .bits))) where
+module _ (b low : List ℕ) (n : ℕ) (r : Receiver) (long : length b ≡ blockBytes) (fits : r .lo < 18446744073709551616) (stage : n ≡ stageNumber (r .stage))
+    (first : low ≡ over packetAt 8 (bytesOf 8 (r .lo)) (set (set (set (set b stageAt n) expectedAt (r .expected)) receivedAt (r .received)) bitsAt (r .bits))) where
   abbrev header : List ℕ
-  header = set (set (set (set b 5 n) 6 (r .expected)) 7 (r .received)) 8 (r .bits)
+  header = set (set (set (set b stageAt n) expectedAt (r .expected)) receivedAt (r .received)) bitsAt (r .bits)
 
-  header-long : length header ≡ 30020
+  header-long : length header ≡ blockBytes
   header-long = simp length-set long
 
-  pub low-long : length low ≡ 30020
-  low-long = ap length first ∙ length-over 16 8 (bytesOf 8 (r .lo)) header (omega (arith, header-long)) (length-bytes 8 (r .lo)) ∙ header-long
+  pub low-long : length low ≡ blockBytes
+  low-long = ap length first ∙ length-over packetAt 8 (bytesOf 8 (r .lo)) header (omega (arith, header-long)) (length-bytes 8 (r .lo)) ∙ header-long
 
-  pub receiver-put : (m : List ℕ) → m ≡ over 24 8 (bytesOf 8 (r .hi)) low → m ≡ putReceiver (rxOf r) b
+  pub receiver-put : (m : List ℕ) → m ≡ over (packetAt + 8) 8 (bytesOf 8 (r .hi)) low → m ≡ putReceiver (rxOf r) b
   unfolding putReceiver
   receiver-put m second =
       second
-      ∙ ap (over 24 8 (bytesOf 8 (r .hi))) first
-      ∙ put-words header 16 (r .lo) (r .hi) (omega (arith, header-long)) fits
-      ∙ (λ t. over 16 16 (bytesOf 16 (words (r .lo) (r .hi))) (set (set (set (set b 5 (stage t)) 6 (r .expected)) 7 (r .received)) 8 (r .bits)))
+      ∙ ap (over (packetAt + 8) 8 (bytesOf 8 (r .hi))) first
+      ∙ put-words header packetAt (r .lo) (r .hi) (omega (arith, header-long)) fits
+      ∙ (λ t. over packetAt packetBytes (bytesOf packetBytes (words (r .lo) (r .hi))) (set (set (set (set b stageAt (stage t)) expectedAt (r .expected)) receivedAt (r .received)) bitsAt (r .bits)))
 
 -- the block with its store after a write
-pub stored-long : (b : List ℕ) → length b ≡ 30020 → (d : Done) (p : ℕ) → Fits d → (s : List ℕ) → s ≡ emptied d (filed d p (part 32 112 b)) → length (over 32 112 s b) ≡ 30020
+pub stored-long : (b : List ℕ) → length b ≡ blockBytes → (d : Done) (p : ℕ) → Fits d → (s : List ℕ) → s ≡ emptied d (filed d p (part storeAt storeBytes b)) → length (over storeAt storeBytes s b) ≡ blockBytes
 stored-long b long d p f s e =
-    let store : length (part 32 112 b) ≡ 112 = length-part 32 112 b (omega arith) in
-    length-over 32 112 s b (omega arith) (ap length e ∙ length-emptied d _ (length-filed d p (part 32 112 b) f store)) ∙ long
+    let store : length (part storeAt storeBytes b) ≡ storeBytes = length-part storeAt storeBytes b (omega arith) in
+    length-over storeAt storeBytes s b (omega arith) (ap length e ∙ length-emptied d _ (length-filed d p (part storeAt storeBytes b) f store)) ∙ long
 
 -- put back into the block of u, with the store s, they make a unit's block
-pub port-made : (b : List ℕ) (u : Sgb) → Made b (parts u) → (s : List ℕ) → length s ≡ 112 → (r : Rx) (l : Lines)
-    → putLines l (putReceiver r (over 32 112 s b))
+pub port-made : (b : List ℕ) (u : Sgb) → Made b (parts u) → (s : List ℕ) → length s ≡ storeBytes → (r : Rx) (l : Lines)
+    → putLines l (putReceiver r (over storeAt storeBytes s b))
     ≡ save (record { port = record { p15 = l .p15; both = l .both; rx = r; store = s }; game = withPads (l .index) (u .game .pads) (u .game); snes = u .snes })
 unfolding putLines putReceiver withPads
 port-made b u m s h r l =
     let m1 = made-put m 2 (lit< tt) s h in
-    let m2 = made-set (made-set (made-set (made-set m1 5 (stageNumber (r .stage)) (lit< tt)) 6 (r .expected) (lit< tt)) 7 (r .received) (lit< tt)) 8 (r .bits) (lit< tt) in
-    let m3 = made-put m2 1 (lit< tt) (bytesOf 16 (r .packet)) (length-bytes 16 (r .packet)) in
-    made-save _ (made-set (made-set (made-set m3 1 (l .index) (lit< tt)) 3 (flag (l .p15)) (lit< tt)) 4 (flag (l .both)) (lit< tt))
+    let m2 = made-set (made-set (made-set (made-set m1 stageAt (stageNumber (r .stage)) (lit< tt)) expectedAt (r .expected) (lit< tt)) receivedAt (r .received) (lit< tt)) bitsAt (r .bits) (lit< tt) in
+    let m3 = made-put m2 1 (lit< tt) (bytesOf packetBytes (r .packet)) (length-bytes packetBytes (r .packet)) in
+    made-save _ (made-set (made-set (made-set m3 indexAt (l .index) (lit< tt)) p15At (flag (l .p15)) (lit< tt)) bothAt (flag (l .both)) (lit< tt))
 
 -- ---- a write on a valid block
 
@@ -131,12 +132,12 @@ module _ (b : List ℕ) (ok : valid b ≡ true) where
   module _ (v : ℕ) (w : Written) (lo hi i : ℕ) (step : stepOf w ≡ stepAt (load b .port) v) (packet : words lo hi ≡ load b .port .rx .packet)
       (index : i ≡ indexed (load b .game .index) (load b .game .pads) (load b .port .p15) v) where
     pub stepped-made : putLines (record { p15 = p15High v; both = bothHigh v; index = i })
-        (putReceiver (rxOf (w .next)) (over 32 112 (emptied (w .done) (filed (w .done) (words lo hi) (load b .port .store))) b)) ≡ save (stepped (load b) v)
+        (putReceiver (rxOf (w .next)) (over storeAt storeBytes (emptied (w .done) (filed (w .done) (words lo hi) (load b .port .store))) b)) ≡ save (stepped (load b) v)
     unfolding stepped advanced wrote
     stepped-made =
         (λ t.
         putLines (record { p15 = p15High v; both = bothHigh v; index = index t })
-        (putReceiver (step t .next) (over 32 112 (emptied (step t .done) (filed (step t .done) (packet t) (load b .port .store))) b)))
+        (putReceiver (step t .next) (over storeAt storeBytes (emptied (step t .done) (filed (step t .done) (packet t) (load b .port .store))) b)))
         ∙ port-made b (load b) (made-of b ok) (wrote (load b .port) v .store) (wrote-length (load b .port) v (valid-good b ok .port .store) sound) _ _
 
     pub answer-is : answerOf (w .done) (filed (w .done) (words lo hi) (load b .port .store)) ≡ answer (load b) v

@@ -8,7 +8,7 @@ use Rattle.bits.specs.Over.{over}
 use Rattle.receiver.specs.Receive.{Rx, stageNumber}
 use Rattle.receiver.specs.Store.{bytesOf}
 use Rattle.run.specs.declared.Lines.{Lines}
-use Rattle.layout.specs.Layout.{indexAt, p15At, bothAt, stageAt, expectedAt, receivedAt, bitsAt, packetAt, packetBytes}
+use Rattle.parts.specs.Parts.{indexAt, p15At, bothAt, stageAt, expectedAt, receivedAt, bitsAt, packetAt, packetBytes}
 use Rattle.layout.specs.Block.{flag}
 use Rattle.layout.specs.Sgb.{Sgb}
 

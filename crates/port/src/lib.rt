@@ -4,7 +4,7 @@ ghost use mathlib.Core.Path.{_≡_};
 ghost use mathlib.Core.Bool.{true};
 ghost use Prim.Native.Nat.{_≤_};
 ghost use lib.ListN.{length};
-ghost use Rattle.layout.specs.Layout.{blockBytes, storeBytes};
+ghost use Rattle.parts.specs.Parts.{blockBytes, storeBytes};
 ghost use Rattle.layout.specs.Block.{load, save, stageOf, flag};
 ghost use Rattle.layout.specs.Valid.{valid};
 ghost use Rattle.receiver.specs.Receive.{rxOf, words};
@@ -37,12 +37,12 @@ pub fn write_port(block: &mut [u8], value: u8, command: &mut [u8]) -> u8
     let rx = load_receiver(block);
     let lines = load_lines(block);
     let w = rx.write(value, lines.both);
-    let index = index_after(lines.index, block[layout::PADS], lines.p15, value);
+    let index = index_after(lines.index, block[parts::PADS], lines.p15, value);
     let n = complete(
         w,
         rx.lo,
         rx.hi,
-        &mut block[layout::STORE..layout::PRESET],
+        &mut block[parts::STORE..parts::PRESET],
         command,
     );
     let next = w.next;
@@ -63,12 +63,12 @@ pub fn load_receiver(block: &[u8]) -> Receiver
     ensures { λ r. ⌜ rxOf r ≡ load (now (block .entry)) .port .rx ⌝ }
 {
     Receiver {
-        stage: stage_of(block[layout::STAGE]),
-        expected: block[layout::EXPECTED],
-        received: block[layout::RECEIVED],
-        bits: block[layout::BITS],
-        lo: half(block, layout::PACKET),
-        hi: half(block, layout::PACKET + 8),
+        stage: stage_of(block[parts::STAGE]),
+        expected: block[parts::EXPECTED],
+        received: block[parts::RECEIVED],
+        bits: block[parts::BITS],
+        lo: half(block, parts::PACKET),
+        hi: half(block, parts::PACKET + 8),
     }
 }
 
@@ -89,9 +89,9 @@ pub fn load_lines(block: &[u8]) -> Lines
     ensures { λ r. ⌜ r ≡ linesOf (load (now (block .entry))) ⌝ }
 {
     Lines {
-        p15: block[layout::P15] == 1,
-        both: block[layout::BOTH] == 1,
-        index: block[layout::INDEX],
+        p15: block[parts::P15] == 1,
+        both: block[parts::BOTH] == 1,
+        index: block[parts::INDEX],
     }
 }
 
@@ -118,21 +118,21 @@ pub fn save_receiver(block: &mut [u8], rx: Receiver)
     ensures { λ _. ⌜ now (block .exit) ≡ putReceiver (rxOf rx) (now (block .entry)) ⌝ }
 {
     let stage = rx.stage;
-    block[layout::STAGE] = stage_number(stage);
-    block[layout::EXPECTED] = rx.expected;
-    block[layout::RECEIVED] = rx.received;
-    block[layout::BITS] = rx.bits;
-    put_half(block, layout::PACKET, rx.lo);
-    put_half(block, layout::PACKET + 8, rx.hi);
+    block[parts::STAGE] = stage_number(stage);
+    block[parts::EXPECTED] = rx.expected;
+    block[parts::RECEIVED] = rx.received;
+    block[parts::BITS] = rx.bits;
+    put_half(block, parts::PACKET, rx.lo);
+    put_half(block, parts::PACKET + 8, rx.hi);
 }
 
 pub fn save_lines(block: &mut [u8], lines: Lines)
     requires { ⌜ length (now block) ≡ blockBytes ⌝ }
     ensures { λ _. ⌜ now (block .exit) ≡ putLines lines (now (block .entry)) ⌝ }
 {
-    block[layout::INDEX] = lines.index;
-    block[layout::P15] = flag(lines.p15);
-    block[layout::BOTH] = flag(lines.both);
+    block[parts::INDEX] = lines.index;
+    block[parts::P15] = flag(lines.p15);
+    block[parts::BOTH] = flag(lines.both);
 }
 
 fn flag(on: bool) -> u8

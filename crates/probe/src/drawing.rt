@@ -4,12 +4,13 @@ use transfer::pending::Pending;
 ghost use mathlib.Core.Path.{_≡_};
 ghost use Prim.Native.Nat.{_<_, _≤_};
 ghost use lib.ListN.{length};
-ghost use Rattle.transfer.specs.Page.{planeByte, pageOf};
+ghost use Rattle.parts.specs.Parts.{blockBytes, systemBytes, filesBytes, captureBytes, tilesBytes, halfBytes, borderMapBytes, borderPalettesBytes, borderBytes};
+ghost use Rattle.transfer.specs.Page.{planeByte, pageBytes, pageOf};
 ghost use Rattle.transfer.specs.Landing.{palettesLanded, filesLanded, tilesLanded, mapLanded};
 
 #[no_mangle]
 pub extern "C" fn probe_plane_byte(screen: &[u8], t: usize, r: usize, p: usize) -> u8
-    requires { ⌜ length (now screen) ≡ 5760 ⌝ }
+    requires { ⌜ length (now screen) ≡ captureBytes ⌝ }
     requires { ⌜ (t < 256) × (r < 8) × (p < 2) ⌝ }
     ensures { λ b. ⌜ b ≡ planeByte (now (screen .entry)) t r p ⌝ }
 {
@@ -18,7 +19,7 @@ pub extern "C" fn probe_plane_byte(screen: &[u8], t: usize, r: usize, p: usize) 
 
 #[no_mangle]
 pub extern "C" fn probe_page(out: &mut [u8], screen: &[u8])
-    requires { ⌜ (length (now out) ≡ 4096) × (length (now screen) ≡ 5760) ⌝ }
+    requires { ⌜ (length (now out) ≡ pageBytes) × (length (now screen) ≡ captureBytes) ⌝ }
     ensures { λ _. ⌜ now (out .exit) ≡ pageOf (now (screen .entry)) ⌝ }
 {
     transfer::page::page(out, screen);
@@ -26,7 +27,7 @@ pub extern "C" fn probe_page(out: &mut [u8], screen: &[u8])
 
 #[no_mangle]
 pub extern "C" fn probe_land_palettes(part: &mut [u8], screen: &[u8])
-    requires { ⌜ (length (now part) ≡ 4096) × (length (now screen) ≡ 5760) ⌝ }
+    requires { ⌜ (length (now part) ≡ systemBytes) × (length (now screen) ≡ captureBytes) ⌝ }
     ensures { λ _. ⌜ now (part .exit) ≡ palettesLanded (now (screen .entry)) ⌝ }
 {
     transfer::landing::land_palettes(part, screen);
@@ -34,7 +35,7 @@ pub extern "C" fn probe_land_palettes(part: &mut [u8], screen: &[u8])
 
 #[no_mangle]
 pub extern "C" fn probe_land_files(part: &mut [u8], screen: &[u8])
-    requires { ⌜ (length (now part) ≡ 4050) × (length (now screen) ≡ 5760) ⌝ }
+    requires { ⌜ (length (now part) ≡ filesBytes) × (length (now screen) ≡ captureBytes) ⌝ }
     ensures { λ _. ⌜ now (part .exit) ≡ filesLanded (now (screen .entry)) ⌝ }
 {
     transfer::landing::land_files(part, screen);
@@ -42,7 +43,7 @@ pub extern "C" fn probe_land_files(part: &mut [u8], screen: &[u8])
 
 #[no_mangle]
 pub extern "C" fn probe_land_tiles(part: &mut [u8], screen: &[u8])
-    requires { ⌜ (length (now part) ≡ 4096) × (length (now screen) ≡ 5760) ⌝ }
+    requires { ⌜ (length (now part) ≡ halfBytes) × (length (now screen) ≡ captureBytes) ⌝ }
     ensures { λ _. ⌜ now (part .exit) ≡ tilesLanded (now (screen .entry)) ⌝ }
 {
     transfer::landing::land_tiles(part, screen);
@@ -50,7 +51,7 @@ pub extern "C" fn probe_land_tiles(part: &mut [u8], screen: &[u8])
 
 #[no_mangle]
 pub extern "C" fn probe_land_map(part: &mut [u8], screen: &[u8])
-    requires { ⌜ (length (now part) ≡ 1888) × (length (now screen) ≡ 5760) ⌝ }
+    requires { ⌜ (length (now part) ≡ borderBytes) × (length (now screen) ≡ captureBytes) ⌝ }
     ensures { λ _. ⌜ now (part .exit) ≡ mapLanded (now (screen .entry)) ⌝ }
 {
     transfer::landing::land_map(part, screen);
@@ -101,7 +102,7 @@ pub extern "C" fn probe_tile_part(tiles: &[u8], n: usize, out: &mut [u8]) -> usi
 
 #[no_mangle]
 pub extern "C" fn probe_map_entry(map: &[u8], column: usize, row: usize) -> u16
-    requires { ⌜ (length (now map) ≡ 1792) × (column < 32) × (row < 28) ⌝ }
+    requires { ⌜ (length (now map) ≡ borderMapBytes) × (column < 32) × (row < 28) ⌝ }
 {
     let entry = border::map_entry(map, column, row);
     entry.0
@@ -116,7 +117,7 @@ pub extern "C" fn probe_border_color(
     x: usize,
     y: usize,
 ) -> u32
-    requires { ⌜ (length (now tiles) ≡ 8192) × (length (now map) ≡ 1792) × (length (now palettes) ≡ 96) ⌝ }
+    requires { ⌜ (length (now tiles) ≡ tilesBytes) × (length (now map) ≡ borderMapBytes) × (length (now palettes) ≡ borderPalettesBytes) ⌝ }
     requires { ⌜ (x < 256) × (y < 224) ⌝ }
 {
     color_number(border::color_at(tiles, map, palettes, x, y))
@@ -131,15 +132,15 @@ fn color_number(c: border::BorderColor) -> u32 {
 
 #[no_mangle]
 pub extern "C" fn probe_color_at(block: &[u8], x: usize, y: usize, shade: usize) -> u16
-    requires { ⌜ length (now block) ≡ 30020 ⌝ }
+    requires { ⌜ length (now block) ≡ blockBytes ⌝ }
     requires { ⌜ (x < 160) × (y < 144) × (shade < 4) ⌝ }
 {
-    let in_force = block[9] == 1;
+    let in_force = block[parts::PRESET_ON] == 1;
     let c = screen::color_at(
-        &block[152..184],
-        &block[144..152],
+        &block[parts::PALETTES..parts::MAP],
+        &block[parts::PRESET..parts::PALETTES],
         in_force,
-        &block[184..274],
+        &block[parts::MAP..parts::SYSTEM],
         x,
         y,
         shade,
@@ -149,22 +150,26 @@ pub extern "C" fn probe_color_at(block: &[u8], x: usize, y: usize, shade: usize)
 
 #[no_mangle]
 pub extern "C" fn probe_row(block: &[u8], y: usize, out: &mut [u16])
-    requires { ⌜ length (now block) ≡ 30020 ⌝ }
+    requires { ⌜ length (now block) ≡ blockBytes ⌝ }
     requires { ⌜ (y < 224) × (256 ≤ length (now out)) ⌝ }
 {
-    let mode = block[0];
-    let in_force = block[9] == 1;
-    let shown = screen::displayed_screen(&block[8420..14180], &block[14180..19940], mode);
+    let mode = block[parts::MASK];
+    let in_force = block[parts::PRESET_ON] == 1;
+    let shown = screen::displayed_screen(
+        &block[parts::LIVE..parts::FROZEN],
+        &block[parts::FROZEN..parts::TILES],
+        mode,
+    );
     picture::row(
-        &block[152..184],
-        &block[144..152],
+        &block[parts::PALETTES..parts::MAP],
+        &block[parts::PRESET..parts::PALETTES],
         in_force,
-        &block[184..274],
+        &block[parts::MAP..parts::SYSTEM],
         shown,
         mode,
-        &block[19940..28132],
-        &block[28132..29924],
-        &block[29924..30020],
+        &block[parts::TILES..parts::BORDER_MAP],
+        &block[parts::BORDER_MAP..parts::BORDER_PALETTES],
+        &block[parts::BORDER_PALETTES..parts::BLOCK],
         y,
         out,
     );
@@ -172,22 +177,26 @@ pub extern "C" fn probe_row(block: &[u8], y: usize, out: &mut [u16])
 
 #[no_mangle]
 pub extern "C" fn probe_picture(block: &[u8], out: &mut [u16])
-    requires { ⌜ length (now block) ≡ 30020 ⌝ }
+    requires { ⌜ length (now block) ≡ blockBytes ⌝ }
     requires { ⌜ 57344 ≤ length (now out) ⌝ }
 {
-    let mode = block[0];
-    let in_force = block[9] == 1;
-    let shown = screen::displayed_screen(&block[8420..14180], &block[14180..19940], mode);
+    let mode = block[parts::MASK];
+    let in_force = block[parts::PRESET_ON] == 1;
+    let shown = screen::displayed_screen(
+        &block[parts::LIVE..parts::FROZEN],
+        &block[parts::FROZEN..parts::TILES],
+        mode,
+    );
     picture::picture(
-        &block[152..184],
-        &block[144..152],
+        &block[parts::PALETTES..parts::MAP],
+        &block[parts::PRESET..parts::PALETTES],
         in_force,
-        &block[184..274],
+        &block[parts::MAP..parts::SYSTEM],
         shown,
         mode,
-        &block[19940..28132],
-        &block[28132..29924],
-        &block[29924..30020],
+        &block[parts::TILES..parts::BORDER_MAP],
+        &block[parts::BORDER_MAP..parts::BORDER_PALETTES],
+        &block[parts::BORDER_PALETTES..parts::BLOCK],
         out,
     );
 }

@@ -6,11 +6,11 @@ use commands::PlainCommand;
 ghost use mathlib.Core.Path.{_≡_};
 ghost use Prim.Native.Nat.{_≤_, _<_};
 ghost use lib.ListN.{length};
-ghost use Rattle.attribute_map.specs.Map.{mapBytes};
+ghost use Rattle.parts.specs.Parts.{palettesBytes, mapBytes, systemBytes, filesBytes};
 ghost use Rattle.attributes.specs.Data.{Whole};
-ghost use Rattle.commands.specs.Files.{filesBytes, attrSetMap, palSetMap};
+ghost use Rattle.commands.specs.Files.{attrSetMap, palSetMap};
 ghost use Rattle.commands.specs.Maps.{attrBlk, attrLin, attrDiv, attrChr};
-ghost use Rattle.palettes.specs.Palettes.{palettesBytes, systemBytes, palPair, palSet};
+ghost use Rattle.palettes.specs.Palettes.{palPair, palSet};
 
 #[no_mangle]
 pub extern "C" fn probe_attr_blk(map: &mut [u8], d: &[u8])

@@ -11,7 +11,7 @@ use run::Ran;
 // the last bit index.
 #[no_mangle]
 pub extern "C" fn probe_log(fast: u8, writes: &[u8], store: &mut [u8]) -> usize {
-    if store.len() != 112 {
+    if store.len() != parts::STORE_BYTES {
         return 0;
     }
     let mut rx = Receiver::new();

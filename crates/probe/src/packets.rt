@@ -2,6 +2,7 @@
 ghost use mathlib.Core.Path.{_≡_};
 ghost use Prim.Native.Nat.{_<_};
 ghost use lib.ListN.{length};
+ghost use Rattle.parts.specs.Parts.{storeBytes};
 ghost use Rattle.receiver.specs.Count.{countOf};
 ghost use Rattle.receiver.specs.Lines.{indexed};
 ghost use Rattle.receiver.specs.Receive.{words, Sound};
@@ -71,7 +72,7 @@ pub extern "C" fn probe_write(
     store: &mut [u8],
 ) -> u8
     requires { ⌜ Sound (record { stage = stageOf stage; expected = expected; received = received; bits = bits; packet = words lo hi }) ⌝ }
-    requires { ⌜ (length (now next) ≡ 24) × (length (now store) ≡ 112) ⌝ }
+    requires { ⌜ (length (now next) ≡ 24) × (length (now store) ≡ storeBytes) ⌝ }
 {
     let rx = Receiver {
         stage: stage_of(stage),

@@ -8,6 +8,7 @@ use Prim.Native.Nat.{ℕ, zero, suc, _+_, _*_, _%_, _<_, _≤_}
 use native.Mathlib.Omega.{arith}
 use lib.ListN.{length, getD, take, drop, length-append, length-drop, take-append-drop}
 use lib.Seq.{length-take-le, getD-take, take-at, take-all}
+use Rattle.parts.specs.Parts.{storeBytes}
 use Rattle.bits.proofs.Overs.{length-over}
 use Rattle.receiver.specs.Count.{countOf}
 use Rattle.receiver.specs.Store.{bytesOf, appended}
@@ -49,7 +50,7 @@ so-far s q n l h k =
     ∙ ap (take (16 * (n + 1))) (sym (append-assoc (take (16 * n) s) q (drop 16 (drop (16 * n) s))))
     ∙ take-at (take (16 * n) s ++ q) (drop 16 (drop (16 * n) s)) (16 * (n + 1)) (length-append (take (16 * n) s) q ∙ omega arith)
 
-long : (s : List ℕ) (p n : ℕ) → n < 7 → length s ≡ 112 → length (appended s p n) ≡ 112
+long : (s : List ℕ) (p n : ℕ) → n < 7 → length s ≡ storeBytes → length (appended s p n) ≡ storeBytes
 unfolding appended
 long s p n h l = length-over (16 * n) 16 (bytesOf 16 p) s (omega arith) (length-bytes 16 p) ∙ l
 
@@ -60,7 +61,7 @@ module _ (c : List ℕ) (k : ℕ) (rest : List ℕ) where
   unfolding pulsesOf
   apart = append-assoc (packetPulses (take 16 c)) (pulsesOf k (drop 16 c)) rest
 
-later : (k e n : ℕ) (c s rest : List ℕ) → Bytes c → length c ≡ 16 * suc k → length s ≡ 112 → 0 < n → e ≡ n + suc k → e ≤ 7
+later : (k e n : ℕ) (c s rest : List ℕ) → Bytes c → length c ≡ 16 * suc k → length s ≡ storeBytes → 0 < n → e ≡ n + suc k → e ≤ 7
     → heard (awaiting e n s) (pulsesOf (suc k) c ++ rest) ≡ told (some (take (16 * n) s ++ c)) (heard resting rest)
 unfolding pulsesOf
 later zero e n c s rest h l m z d f =
@@ -87,7 +88,7 @@ later (suc k) e n c s rest h l m z d f =
 
 -- ---- the whole command
 
-module _ (u : Port) (c rest : List ℕ) (h : Bytes c) (m : length (u .store) ≡ 112) (f : NoneHeld (u .rx)) where
+module _ (u : Port) (c rest : List ℕ) (h : Bytes c) (m : length (u .store) ≡ storeBytes) (f : NoneHeld (u .rx)) where
   counts : length (take 16 c) ≡ 16 → number (take 16 c) % 256 ≡ getD c 0 0
   counts t = value-first (take 16 c) (bytes-take 16 c h) (omega arith) ∙ getD-take 16 c 0 0 (omega arith)
 
@@ -122,7 +123,7 @@ module _ (u : Port) (c rest : List ℕ) (h : Bytes c) (m : length (u .store) ≡
 
 -- A command c that the encoder takes, turned into pulses and received with no earlier packet held: whatever follows, exactly c is
 -- answered, and what follows is heard by a port at rest.
-pub round-trip-then : (u : Port) (c rest : List ℕ) → malformed c ≡ false → Bytes c → length (u .store) ≡ 112 → NoneHeld (u .rx)
+pub round-trip-then : (u : Port) (c rest : List ℕ) → malformed c ≡ false → Bytes c → length (u .store) ≡ storeBytes → NoneHeld (u .rx)
     → heard u (pulsesOf (packetsIn c) c ++ rest) ≡ told (some c) (heard resting rest)
 unfolding packetsIn
 round-trip-then u c rest t h m f =
@@ -133,7 +134,7 @@ round-trip-then u c rest t h m f =
     counted x = refl
 
 -- The same alone: exactly one write answers, with exactly that command, and the receiver is idle after.
-pub round-trip : (u : Port) (c : List ℕ) → malformed c ≡ false → Bytes c → length (u .store) ≡ 112 → NoneHeld (u .rx)
+pub round-trip : (u : Port) (c : List ℕ) → malformed c ≡ false → Bytes c → length (u .store) ≡ storeBytes → NoneHeld (u .rx)
     → heard u (pulsesOf (packetsIn c) c) ≡ record { port = resting; commands = c ∷ [] }
 unfolding told heard
 round-trip u c t h m f = ap (heard u) (sym (append-nil (pulsesOf (packetsIn c) c))) ∙ round-trip-then u c [] t h m f

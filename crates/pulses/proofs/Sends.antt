@@ -7,6 +7,7 @@ use native.Mathlib.Omega.{arith}
 use lib.ListN.{length, getD, take, drop}
 use lib.Seq.{length-take-le, take-at}
 use borrow.Author.Tests.{ltb-false}
+use Rattle.parts.specs.Parts.{storeBytes}
 use Rattle.receiver.specs.Receive.{idle}
 use Rattle.receiver.specs.Port.{Port, Heard, told, heard}
 use Rattle.run.specs.Run.{Ended, runs, resumed, Ready}
@@ -26,7 +27,7 @@ bytes-of (x ∷ c) h = (h 0, bytes-of c (λ i. h (suc i)))
 
 -- a run of which exactly one command was heard
 heard-one : (c : List ℕ) (n : ℕ) (u p : Port) (rest : List ℕ) → _≡_ {A = Heard} (record { port = p; commands = c ∷ [] }) (resumed n u rest)
-    → n < 8 → length (u .store) ≡ 112 → (16 * n ≡ length c) × (take (length c) (u .store) ≡ c)
+    → n < 8 → length (u .store) ≡ storeBytes → (16 * n ≡ length c) × (take (length c) (u .store) ≡ c)
 unfolding resumed told
 heard-one c zero u p rest e h l = absurd (let z : _≡_ {A = ℕ} 1 0 = ap (λ (x : Heard). length (x .commands)) e in omega arith)
 heard-one c (suc n) u p rest e h l =

@@ -1,15 +1,12 @@
--- What a call answers in document 01's terms: the number of a refusal (Refusals by number), or the answer's value.
--- For each enum that a call here answers, its number or value in each case.
+-- What a call answers in document 01's terms (`Answer` of the crate `bits`): for each enum that a call here answers, its number or
+-- value in each case.
 use Prim.Native.Nat.{ℕ}
 use mathlib.Core.Bool.{Bool, true, false}
+pub use Rattle.bits.specs.Answer.{Answer, refused, given}
 use Rattle.pulses.specs.declared.Encoded.{Encoded}
 use Rattle.pulses.specs.declared.Encoded.the-variants as E
 use Rattle.pulses.specs.declared.Conformance.{Conformance}
 use Rattle.pulses.specs.declared.Conformance.the-variants as C
-
-pub data Answer (A : Type 0) : Type 0 where
-  refused : ℕ → Answer A
-  given : A → Answer A
 
 -- how many writes
 unfoldable pub encodedAnswer : Encoded → Answer ℕ

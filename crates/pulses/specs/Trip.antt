@@ -5,6 +5,7 @@ use mathlib.Core.Path.{_≡_}
 use mathlib.Core.Bool.{true}
 use mathlib.Core.List.{List}
 use lib.ListN.{length, take, replicate}
+use Rattle.parts.specs.Parts.{storeBytes}
 use Rattle.receiver.specs.declared.Stage.{Stage}
 use Rattle.receiver.specs.declared.Stage.the-variants.{Idle, Receiving, Awaiting}
 use Rattle.receiver.specs.Receive.{Rx, idle, rxOf}
@@ -22,7 +23,7 @@ NoneHeld r = NoneHeldAt (r .stage) r
 
 -- the port at rest: both lines high, the receiver idle, the store empty
 unfoldable pub resting : Port
-resting = record { p15 = true; both = true; rx = idle; store = replicate 112 0 }
+resting = record { p15 = true; both = true; rx = idle; store = replicate storeBytes 0 }
 
 -- a run of the code that ended so, with this store, hands back the command c and has gone idle
 pub record Returned (c : List ℕ) (r : Ran) (store : List ℕ) : Type 0 where

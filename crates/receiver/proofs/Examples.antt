@@ -4,6 +4,7 @@ use mathlib.Core.Bool.{true}
 use mathlib.Core.List.{List, [], _∷_}
 use lib.ListN.{replicate}
 use Prim.Native.Nat.{ℕ}
+use Rattle.parts.specs.Parts.{storeBytes}
 use Rattle.bits.specs.Bit.{bitOf}
 use Rattle.receiver.specs.Lines.{p14High, p15High, bothHigh, pulseBy, pulseOf}
 use Rattle.receiver.specs.Receive.{idle, begun, dataBit, quiet, clocked, whenIdle, whenReceiving, pulsed, written}
@@ -12,7 +13,7 @@ use Rattle.receiver.specs.Port.{Port, answered, wrote, told, heard}
 
 -- as `post_boot` leaves it: both lines high, nothing received
 abbrev booted : Port
-booted = record { p15 = true; both = true; rx = idle; store = replicate 112 0 }
+booted = record { p15 = true; both = true; rx = idle; store = replicate storeBytes 0 }
 
 -- the bit index after some writes
 abbrev indexAfter : List ℕ → ℕ

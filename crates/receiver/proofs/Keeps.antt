@@ -9,6 +9,7 @@ use native.Mathlib.Omega.{arith}
 use lib.Dec.{eqb, leb, ltb, lit<, lit≤}
 use lib.ListN.{length, getD, drop, replicate}
 use borrow.Author.Tests.{ltb-true, leb-false, eq-eqb, ne-eqb}
+use Rattle.parts.specs.Parts.{storeBytes}
 use Rattle.bits.specs.Zero.{zeros}
 use Rattle.receiver.specs.declared.Stage.{Stage}
 use Rattle.receiver.specs.declared.Stage.the-variants.{Idle, Receiving, Awaiting}
@@ -97,13 +98,13 @@ rest-stays s p n l z =
     let e : 16 * (n + 1) ≡ 16 * n + 16 = omega arith in
     rw (e, drop-over (16 * n) 16 (bytesOf 16 p) s l (length-bytes 16 p)) (zeros-drop 16 (drop (16 * n) s) z)
 
-kept-v3 : (r : Rx) (n : ℕ) (s : List ℕ) → length s ≡ 112 → r .received < 7 → n ≤ 7
+kept-v3 : (r : Rx) (n : ℕ) (s : List ℕ) → length s ≡ storeBytes → r .received < 7 → n ≤ 7
     → n ≡ countOf (getD (appended s (r .packet) (r .received)) 0 0) → zeros (drop (16 * r .received) s) ≡ true
     → After (kept r n) (r .packet) s
 unfolding kept emptied filed
 kept-v3 r n s l m k c z =
     either (λ (x : Step). After x (r .packet) s) (leb n (r .received + 1))
-    (λ e. rests (replicate 112 0) (replicate-zeros 112))
+    (λ e. rests (replicate storeBytes 0) (replicate-zeros storeBytes))
     (λ e. (
       record { bits = refl; packet = refl },
       record {
@@ -115,7 +116,7 @@ kept-v3 r n s l m k c z =
       },
     ))
 
-stopped-v3 : (r : Rx) (s : List ℕ) → length s ≡ 112 → So-far (r .expected) (r .received) s → After (stopped r) (r .packet) s
+stopped-v3 : (r : Rx) (s : List ℕ) → length s ≡ storeBytes → So-far (r .expected) (r .received) s → After (stopped r) (r .packet) s
 unfolding stopped counted quiet emptied filed
 stopped-v3 r s l (inl f) =
     rw (eq-eqb (r .received) 0 (f .none-in))
@@ -139,7 +140,7 @@ bit-v3 : (r : Rx) (b : ℕ) (s : List ℕ) → r .stage ≡ Receiving → b < 2 
 unfolding dataBit
 bit-v3 r b s e k h c f = rw e (record { bound = omega arith; clear = bit-below (r .packet) (r .bits) b (c .clear) k }, f)
 
-clocked-v3 : (r : Rx) (b : ℕ) (rel : Bool) (s : List ℕ) → r .stage ≡ Receiving → b < 2 → length s ≡ 112 → V3 r s
+clocked-v3 : (r : Rx) (b : ℕ) (rel : Bool) (s : List ℕ) → r .stage ≡ Receiving → b < 2 → length s ≡ storeBytes → V3 r s
     → Coming (r .bits) (r .packet) → So-far (r .expected) (r .received) s → After (clocked r b rel) (r .packet) s
 unfolding clocked quiet emptied filed
 clocked-v3 r b rel s e k l v c f =
@@ -149,7 +150,7 @@ clocked-v3 r b rel s e k l v c f =
     (λ z. stopped-v3 r s l f))
     (λ y. v)
 
-written-v3 : (r : Rx) (p : Pulse) (rel : Bool) (s : List ℕ) → length s ≡ 112 → V3 r s → After (written r p rel) (r .packet) s
+written-v3 : (r : Rx) (p : Pulse) (rel : Bool) (s : List ℕ) → length s ≡ storeBytes → V3 r s → After (written r p rel) (r .packet) s
 unfolding written pulsed whenIdle whenReceiving whenAwaiting quiet emptied filed restarted
 written-v3 r p rel s l v = go (r .stage) refl p v
   where
@@ -214,11 +215,11 @@ completes-idle r p rel = go (r .stage) p
 
 -- ---- a write keeps V3, and the store's length
 
-pub wrote-v3 : (u : Port) (v : ℕ) → length (u .store) ≡ 112 → V3 (u .rx) (u .store) → V3 (wrote u v .rx) (wrote u v .store)
+pub wrote-v3 : (u : Port) (v : ℕ) → length (u .store) ≡ storeBytes → V3 (u .rx) (u .store) → V3 (wrote u v .rx) (wrote u v .store)
 unfolding wrote
 wrote-v3 u v l h = written-v3 (u .rx) (pulseOf v) (u .both) (u .store) l h
 
-pub wrote-length : (u : Port) (v : ℕ) → length (u .store) ≡ 112 → Sound (u .rx) → length (wrote u v .store) ≡ 112
+pub wrote-length : (u : Port) (v : ℕ) → length (u .store) ≡ storeBytes → Sound (u .rx) → length (wrote u v .store) ≡ storeBytes
 unfolding wrote
 wrote-length u v l h =
     length-emptied (stepAt u v .done) _

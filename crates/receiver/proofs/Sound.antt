@@ -9,6 +9,7 @@ use lib.Dec.{eqb, leb, ltb, lit<, lit≤}
 use lib.ListN.{length, length-replicate}
 use lib.Pow.{pow-add}
 use borrow.Author.Tests.{ltb-true, leb-false}
+use Rattle.parts.specs.Parts.{storeBytes}
 use Rattle.bits.proofs.Overs.{length-over}
 use Rattle.receiver.specs.declared.Done.{Done}
 use Rattle.receiver.specs.declared.Done.the-variants.{Nothing, Packet, Command}
@@ -123,18 +124,18 @@ has-place w r p rel s h = subst⁻¹ (λ (x : Step). Fits (x .done)) h (good-wri
 
 -- ---- the store stays 112 bytes long
 
-length-appended : (s : List ℕ) (p n : ℕ) → n < 7 → length s ≡ 112 → length (appended s p n) ≡ 112
+length-appended : (s : List ℕ) (p n : ℕ) → n < 7 → length s ≡ storeBytes → length (appended s p n) ≡ storeBytes
 unfolding appended
 length-appended s p n h l = length-over (16 * n) 16 (bytesOf 16 p) s (omega arith) (length-bytes 16 p) ∙ l
 
-pub length-filed : (d : Done) (p : ℕ) (s : List ℕ) → Fits d → length s ≡ 112 → length (filed d p s) ≡ 112
+pub length-filed : (d : Done) (p : ℕ) (s : List ℕ) → Fits d → length s ≡ storeBytes → length (filed d p s) ≡ storeBytes
 unfolding filed
 length-filed Nothing p s f l = l
 length-filed (Packet n) p s f l = length-appended s p n f l
 length-filed (Command n) p s f l = length-appended s p (n - 1) (omega arith) l
 
-pub length-emptied : (d : Done) (s : List ℕ) → length s ≡ 112 → length (emptied d s) ≡ 112
+pub length-emptied : (d : Done) (s : List ℕ) → length s ≡ storeBytes → length (emptied d s) ≡ storeBytes
 unfolding emptied
 length-emptied Nothing s l = l
 length-emptied (Packet n) s l = l
-length-emptied (Command n) s l = length-replicate {A = ℕ} 112 0
+length-emptied (Command n) s l = length-replicate {A = ℕ} storeBytes 0

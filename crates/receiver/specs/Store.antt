@@ -4,6 +4,7 @@ use Prim.Native.Nat.{ℕ, zero, suc, _-_, _*_, _/_, _%_, _<_}
 use mathlib.Core.List.{List, [], _∷_}
 use mathlib.Core.Option.{Option, none, some}
 use lib.ListN.{take, replicate}
+use Rattle.parts.specs.Parts.{storeBytes}
 use Rattle.bits.specs.Over.{over}
 use Rattle.receiver.specs.declared.Done.{Done}
 use Rattle.receiver.specs.declared.Done.the-variants.{Nothing, Packet, Command}
@@ -33,7 +34,7 @@ answerOf (Command n) s = some (take (16 * n) s)
 unfoldable pub emptied : Done → List ℕ → List ℕ
 emptied Nothing s = s
 emptied (Packet n) s = s
-emptied (Command n) s = replicate 112 0
+emptied (Command n) s = replicate storeBytes 0
 
 -- the packets of a command that is complete, or 0
 unfoldable pub packetsOf : Done → ℕ

@@ -2,6 +2,7 @@
 ghost use mathlib.Core.Path.{_≡_};
 ghost use Prim.Native.Nat.{_<_};
 ghost use lib.ListN.{length, getD};
+ghost use Rattle.parts.specs.Parts.{storeBytes};
 ghost use Rattle.receiver.specs.Receive.{words};
 ghost use Rattle.receiver.specs.Store.{bytesOf, appended, filed, packetsOf, Fits};
 use crate::Done;
@@ -21,7 +22,7 @@ pub fn byte_at(lo: u64, hi: u64, i: usize) -> u8
 
 // The packet at its n-th place of the store.
 pub fn append(store: &mut [u8], n: u8, lo: u64, hi: u64)
-    requires { ⌜ (n < 7) × (length (now store) ≡ 112) ⌝ }
+    requires { ⌜ (n < 7) × (length (now store) ≡ storeBytes) ⌝ }
     ensures { λ _. ⌜ now (store .exit) ≡ appended (now (store .entry)) (words lo hi) n ⌝ }
 {
     let at = 16 * n as usize;
@@ -35,7 +36,7 @@ pub fn append(store: &mut [u8], n: u8, lo: u64, hi: u64)
 // What a pulse completed goes into the store, with the packet that was coming in before it. Answers the packets of a command that
 // is complete, whose bytes then stand at the store's front, or 0.
 pub fn file(w: Written, lo: u64, hi: u64, store: &mut [u8]) -> u8
-    requires { ⌜ Fits (w .done) × (length (now store) ≡ 112) ⌝ }
+    requires { ⌜ Fits (w .done) × (length (now store) ≡ storeBytes) ⌝ }
     ensures { λ r. ⌜ (r ≡ packetsOf (w .done)) × (now (store .exit) ≡ filed (w .done) (words lo hi) (now (store .entry))) ⌝ }
 {
     let done = w.done;

@@ -8,6 +8,7 @@ use native.Mathlib.Omega.{arith}
 use borrow.Author.Tests.{eqb-false, ne-eqb}
 use lib.Dec.{lit<, lit≤, eqb}
 use lib.ListN.{length, getD}
+use Rattle.parts.specs.Parts.{palettesBytes, mapBytes, captureBytes}
 use Rattle.bits.specs.Bit.{bitOf}
 use Rattle.palettes.proofs.Lengths.{length-pal-pair, length-pal-set}
 use Rattle.commands.specs.Command as command
@@ -26,7 +27,7 @@ use Rattle.rules.proofs.Pads.{pads-good, mlt-few, mlt-within}
 
 -- ---- one place of the game's part
 
-pub palettes-good : (g : Game) (p : List ℕ) → GoodGame g → length p ≡ 32 → GoodGame (withPalettes p g)
+pub palettes-good : (g : Game) (p : List ℕ) → GoodGame g → length p ≡ palettesBytes → GoodGame (withPalettes p g)
 unfolding withPalettes
 palettes-good g p h e = record {
   mask = h .mask;
@@ -39,7 +40,7 @@ palettes-good g p h e = record {
   frozen = h .frozen;
 }
 
-pub map-good : (g : Game) (m : List ℕ) → GoodGame g → length m ≡ 90 → GoodGame (withMap m g)
+pub map-good : (g : Game) (m : List ℕ) → GoodGame g → length m ≡ mapBytes → GoodGame (withMap m g)
 unfolding withMap
 map-good g m h e = record {
   mask = h .mask;
@@ -52,7 +53,7 @@ map-good g m h e = record {
   frozen = h .frozen;
 }
 
-pub mask-good : (g : Game) (m : ℕ) (f : Option (List ℕ)) → GoodGame g → m ≤ 3 → maskAllows m (isHeld f) ≡ true → SizedIf 5760 f → GoodGame (withMask m f g)
+pub mask-good : (g : Game) (m : ℕ) (f : Option (List ℕ)) → GoodGame g → m ≤ 3 → maskAllows m (isHeld f) ≡ true → SizedIf captureBytes f → GoodGame (withMask m f g)
 unfolding withMask
 mask-good g m f h few e k = record {
   mask = few;
@@ -89,7 +90,7 @@ pair-keeps : (a b : ℕ) (d : List ℕ) → a < 4 → b < 4 → 16 ≤ length d 
 unfolding plainly
 pair-keeps a b d ha hb l = plain-keeps _ (λ g h. palettes-good g _ h (length-pal-pair a b d (g .palettes) ha hb l (h .palettes)))
 
-map-keeps : (c : command.Plain) (m : List ℕ → List ℕ) → ((g : Game) → plainly c g ≡ withMap (m (g .map)) g) → ((l : List ℕ) → length (m l) ≡ 90) → Keeps (command.plain c)
+map-keeps : (c : command.Plain) (m : List ℕ → List ℕ) → ((g : Game) → plainly c g ≡ withMap (m (g .map)) g) → ((l : List ℕ) → length (m l) ≡ mapBytes) → Keeps (command.plain c)
 map-keeps c m e l = plain-keeps c (λ g h. rw (e g) (map-good g (m (g .map)) h (l (g .map))))
 
 -- a mode that is no freeze drops the frozen capture

@@ -18,7 +18,7 @@ use Rattle.receiver.specs.declared.Done.the-variants.{Nothing, Packet, Command}
 use Rattle.receiver.proofs.Keeps.{v3-sound, wrote-v3, wrote-length}
 use Rattle.receiver.proofs.Sound.{good-written as receiver-good, length-filed}
 use Rattle.transfer.specs.Pending as pending
-use Rattle.transfer.specs.Page.{pageOf}
+use Rattle.transfer.specs.Page.{pageBytes, pageOf}
 use Rattle.transfer.specs.Landing.{palettesLanded, filesLanded, tilesLanded, mapLanded}
 use Rattle.transfer.specs.declared.pending.Pending.{Pending}
 use Rattle.transfer.specs.declared.pending.Pending.the-variants as P
@@ -26,7 +26,7 @@ use Rattle.transfer.specs.declared.pending.Landed.{Landed}
 use Rattle.transfer.specs.declared.pending.Landed.the-variants as L
 use Rattle.transfer.specs.declared.pending.Transfer.the-variants.{Palettes, Attributes, BorderTiles, BorderMap}
 use Rattle.transfer.proofs.Parts.{page-long}
-use Rattle.layout.specs.Layout.{captureBytes}
+use Rattle.parts.specs.Parts.{storeBytes, captureBytes, tilesBytes, halfBytes, borderBytes}
 use Rattle.layout.specs.Good.{Good, GoodPort, GoodGame, GoodSnes, GoodPending}
 use Rattle.layout.specs.Sgb.{Sgb, Game, Snes}
 use Rattle.commands.specs.Command as command
@@ -58,14 +58,14 @@ port-kept p v h = record {
 -- a command that is complete has 16 to 112 bytes, packet by packet
 pub record Whole (d : List ℕ) : Type 0 where
   pub least : 16 ≤ length d
-  pub most : length d ≤ 112
+  pub most : length d ≤ storeBytes
   pub packets : length d ≡ 16 * (length d / 16)
 
 abbrev pub WholeIf : Option (List ℕ) → Type 0
 WholeIf none = Unit {0}
 WholeIf (some d) = Whole d
 
-front-whole : (n : ℕ) (s : List ℕ) → (0 < n) × (n < 8) → length s ≡ 112 → Whole (take (16 * n) s)
+front-whole : (n : ℕ) (s : List ℕ) → (0 < n) × (n < 8) → length s ≡ storeBytes → Whole (take (16 * n) s)
 front-whole n s f l =
     let e : length (take (16 * n) s) ≡ 16 * n = length-take-le (16 * n) s (omega arith) in
     record { least = omega arith; most = omega arith; packets = omega arith }
@@ -77,7 +77,7 @@ answered-whole p v h =
     let fits = receiver-good (p .rx) (pulseOf v) (p .both) sound .1 in
     go (stepAt p v .done) (filedAt p v) fits (length-filed (stepAt p v .done) (p .rx .packet) (p .store) fits (h .store))
   where
-    go : (d : Done) (s : List ℕ) → Fits d → length s ≡ 112 → WholeIf (answerOf d s)
+    go : (d : Done) (s : List ℕ) → Fits d → length s ≡ storeBytes → WholeIf (answerOf d s)
     go Nothing s f l = unfold answerOf in tt
     go (Packet n) s f l = unfold answerOf in tt
     go (Command n) s f l = unfold answerOf in front-whole n s f l
@@ -129,7 +129,7 @@ captured-good x s l h = record {
   borderPalettes = h .borderPalettes;
 }
 
-tiles-good : (l : List ℕ) (s : Snes) → length l ≡ 8192 → GoodSnes s → GoodSnes (withTiles l s)
+tiles-good : (l : List ℕ) (s : Snes) → length l ≡ tilesBytes → GoodSnes s → GoodSnes (withTiles l s)
 unfolding withTiles
 tiles-good l s e h = record {
   pending = h .pending;
@@ -141,9 +141,9 @@ tiles-good l s e h = record {
   borderPalettes = h .borderPalettes;
 }
 
-border-long : (x : List ℕ) → length (mapLanded x) ≡ 1888
+border-long : (x : List ℕ) → length (mapLanded x) ≡ borderBytes
 unfolding mapLanded
-border-long x = let e : length (pageOf x) ≡ 4096 = page-long x in simp (length-append, length-take, length-drop) (omega arith)
+border-long x = let e : length (pageOf x) ≡ pageBytes = page-long x in simp (length-append, length-take, length-drop) (omega arith)
 
 landed-good : (n : Landed) (x : List ℕ) (s : Snes) → GoodSnes s → GoodSnes (landed n x s)
 unfolding landed withSystem withFiles withBorder palettesLanded filesLanded tilesLanded
@@ -161,23 +161,23 @@ landed-good (L.Page Attributes) x s h = record {
   pending = h .pending;
   live = h .live;
   system = h .system;
-  files = let e : length (pageOf x) ≡ 4096 = page-long x in simp length-take (omega arith);
+  files = let e : length (pageOf x) ≡ pageBytes = page-long x in simp length-take (omega arith);
   tiles = h .tiles;
   borderMap = h .borderMap;
   borderPalettes = h .borderPalettes;
 }
 landed-good (L.Page (BorderTiles false)) x s h =
-    tiles-good _ s (length-over 0 4096 (pageOf x) (s .tiles) (omega (arith, h .tiles)) (page-long x) ∙ h .tiles) h
+    tiles-good _ s (length-over 0 halfBytes (pageOf x) (s .tiles) (omega (arith, h .tiles)) (page-long x) ∙ h .tiles) h
 landed-good (L.Page (BorderTiles true)) x s h =
-    tiles-good _ s (length-over 4096 4096 (pageOf x) (s .tiles) (omega (arith, h .tiles)) (page-long x) ∙ h .tiles) h
+    tiles-good _ s (length-over halfBytes halfBytes (pageOf x) (s .tiles) (omega (arith, h .tiles)) (page-long x) ∙ h .tiles) h
 landed-good (L.Page BorderMap) x s h = record {
   pending = h .pending;
   live = h .live;
   system = h .system;
   files = h .files;
   tiles = h .tiles;
-  borderMap = let e : length (mapLanded x) ≡ 1888 = border-long x in simp length-take (omega arith);
-  borderPalettes = let e : length (mapLanded x) ≡ 1888 = border-long x in simp length-drop (omega arith);
+  borderMap = let e : length (mapLanded x) ≡ borderBytes = border-long x in simp length-take (omega arith);
+  borderPalettes = let e : length (mapLanded x) ≡ borderBytes = border-long x in simp length-drop (omega arith);
 }
 
 pub good-screened : (u : Sgb) (x : List ℕ) → length x ≡ captureBytes → Good u → Good (screened u x)

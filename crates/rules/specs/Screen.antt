@@ -10,12 +10,8 @@ use Rattle.transfer.specs.Landing.{palettesLanded, filesLanded, tilesLanded, ma
 use Rattle.transfer.specs.declared.pending.Landed.{Landed}
 use Rattle.transfer.specs.declared.pending.Landed.the-variants.{Nothing, Page}
 use Rattle.transfer.specs.declared.pending.Transfer.the-variants.{Palettes, Attributes, BorderTiles, BorderMap}
-use Rattle.layout.specs.Layout.{borderMapBytes}
+use Rattle.parts.specs.Parts.{halfBytes, borderMapBytes}
 use Rattle.layout.specs.Sgb.{Sgb, Snes}
-
--- half of the tiles: 128 of 32 bytes
-abbrev pub halfBytes : ℕ
-halfBytes = 4096
 
 -- the live capture is the screen, and the countdown has gone on
 unfoldable pub captured : List ℕ → Snes → Snes

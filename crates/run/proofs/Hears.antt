@@ -7,6 +7,7 @@ use Prim.Native.Nat.{ℕ, zero, suc, _+_, _-_, _*_, _<_, _≤_}
 use native.Mathlib.Omega.{arith}
 use lib.Dec.{lit<}
 use lib.ListN.{length, take, drop, replicate}
+use Rattle.parts.specs.Parts.{storeBytes}
 use Rattle.receiver.specs.declared.Done.{Done}
 use Rattle.receiver.specs.declared.Done.the-variants.{Nothing, Packet, Command}
 use Rattle.receiver.specs.Lines.{pulseOf, indexed}
@@ -20,7 +21,7 @@ use Rattle.run.proofs.Turns.{ready-lined}
 
 -- ---- a run ends within its writes
 
-record Within (i k : ℕ) (e : Ended) : Type 0 where
+pub record Within (i k : ℕ) (e : Ended) : Type 0 where
   pub from : i ≤ e .at
   pub to : e .at ≤ k
 
@@ -29,7 +30,7 @@ unfolding onward
 within-on zero i k x u rest h w = w
 within-on (suc n) i k x u rest h w = record { from = omega arith; to = h }
 
-within : (mask i x : ℕ) (u : Port) (ws : List ℕ) → Within i (i + length ws) (runs mask i x u ws)
+pub within : (mask i x : ℕ) (u : Port) (ws : List ℕ) → Within i (i + length ws) (runs mask i x u ws)
 unfolding runs
 within mask i x u [] = record { from = omega arith; to = omega arith }
 within mask i x u (v ∷ vs) =
@@ -99,14 +100,14 @@ complete mask i x u (v ∷ vs) r =
 -- ---- what is heard
 
 -- a write that completes no command, and one that does
-none-told : (d : Done) (s : List ℕ) → Fits d → packetsOf d ≡ 0 → (answerOf d s ≡ none) × (emptied d s ≡ s)
+pub none-told : (d : Done) (s : List ℕ) → Fits d → packetsOf d ≡ 0 → (answerOf d s ≡ none) × (emptied d s ≡ s)
 unfolding packetsOf answerOf emptied
 none-told Nothing s f e = (refl, refl)
 none-told (Packet n) s f e = (refl, refl)
 none-told (Command n) s f e = absurd (omega arith)
 
-one-told : (d : Done) (s : List ℕ) (n : ℕ) → packetsOf d ≡ suc n
-    → (answerOf d s ≡ some (take (16 * suc n) s)) × (emptied d s ≡ replicate 112 0)
+pub one-told : (d : Done) (s : List ℕ) (n : ℕ) → packetsOf d ≡ suc n
+    → (answerOf d s ≡ some (take (16 * suc n) s)) × (emptied d s ≡ replicate storeBytes 0)
 unfolding packetsOf answerOf emptied
 one-told Nothing s n e = absurd (omega arith)
 one-told (Packet m) s n e = absurd (omega arith)

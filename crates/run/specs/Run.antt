@@ -5,6 +5,7 @@ use mathlib.Core.Path.{_≡_}
 use mathlib.Core.List.{List, [], _∷_}
 use mathlib.Core.Option.{some}
 use lib.ListN.{length, take, replicate}
+use Rattle.parts.specs.Parts.{storeBytes}
 use Rattle.receiver.specs.Lines.{p15High, bothHigh, indexed}
 use Rattle.receiver.specs.Receive.{rxOf, Sound}
 use Rattle.receiver.specs.Store.{packetsOf}
@@ -38,7 +39,7 @@ runs mask i x u (v ∷ vs) =
 
 -- the port when its command has been carried out
 unfoldable pub cleared : Port → Port
-cleared u = record { p15 = u .p15; both = u .both; rx = u .rx; store = replicate 112 0 }
+cleared u = record { p15 = u .p15; both = u .both; rx = u .rx; store = replicate storeBytes 0 }
 
 -- what is heard of a run that ended so, and then of the writes that are left
 unfoldable pub resumed : ℕ → Port → List ℕ → Heard
@@ -58,4 +59,4 @@ pub record Ready (u : Port) (x mask : ℕ) : Type 0 where
   pub sound : Sound (u .rx)
   pub within : x < 255
   pub narrow : mask < 255
-  pub long : length (u .store) ≡ 112
+  pub long : length (u .store) ≡ storeBytes

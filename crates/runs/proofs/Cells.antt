@@ -1,6 +1,6 @@
 -- Where a run lies and where its palette starts: the tests of `within`, and the one backdrop that every palette of the border's table starts with.
 -- Assumes nothing.
-use Prim.Native.Nat.{ℕ, zero, suc, _-_, _*_, _<_, _≤_}
+use Prim.Native.Nat.{ℕ, zero, suc, _+_, _-_, _*_, _<_, _≤_}
 use native.Mathlib.Nat.{not-suc-le-zero, le-of-suc-le-suc}
 use native.Mathlib.Omega.{arith}
 use mathlib.Core.Path.{_≡_, refl, sym, _∙_, ap}
@@ -15,12 +15,12 @@ use Rattle.border.specs.Border.{draws}
 use Rattle.border.proofs.Entries.{drawn-palette}
 use Rattle.runs.specs.Runs.{baseOf, within}
 
-pub is-within : (c y : ℕ) → within c y ≡ true → (6 ≤ c) × (c < 26) × (40 ≤ y) × (y < 184)
+pub is-within : (c y : ℕ) → within c y ≡ true → (6 ≤ c) × (c < 26) × (40 ≤ y) × (y < 40 + 144)
 unfolding within
 is-within c y e =
-    let x = and-left (leb 6 c && ltb c 26) (leb 40 y && ltb y 184) e in
-    let z = and-right (leb 6 c && ltb c 26) (leb 40 y && ltb y 184) e in
-    (leb-true 6 c (and-left _ _ x), ltb-true c 26 (and-right (leb 6 c) _ x), leb-true 40 y (and-left _ _ z), ltb-true y 184 (and-right (leb 40 y) _ z))
+    let x = and-left (leb 6 c && ltb c 26) (leb 40 y && ltb y (40 + 144)) e in
+    let z = and-right (leb 6 c && ltb c 26) (leb 40 y && ltb y (40 + 144)) e in
+    (leb-true 6 c (and-left _ _ x), ltb-true c 26 (and-right (leb 6 c) _ x), leb-true 40 y (and-left _ _ z), ltb-true y (40 + 144) (and-right (leb 40 y) _ z))
 
 -- a word that draws
 pub base-drawn : (w p : ℕ) → p ≡ paletteOf w → draws w ≡ true → ((p - 4) * 16 ≡ baseOf w) × ((p - 4) * 16 ≤ 32)

@@ -6,6 +6,7 @@ use mathlib.Core.Bool.{Bool, cond, _&&_}
 use mathlib.Core.List.{List}
 use lib.Dec.{ltb, leb, eqb}
 use lib.ListN.{length, getD}
+use Rattle.parts.specs.Parts.{mapBytes, captureBytes, tilesBytes, borderMapBytes}
 use Rattle.bits.specs.Tab.{tab}
 use Rattle.colour.specs.Entry.{paletteOf}
 use Rattle.screen.specs.Packed.{pairAt, cellAt}
@@ -14,10 +15,10 @@ use Rattle.lanes.specs.Lanes.{spreadOf}
 
 -- the lent parts have their lengths
 pub record Lent (tiles map attributes screen : List ℕ) : Type 0 where
-  pub tiles-long : length tiles ≡ 8192
-  pub map-long : length map ≡ 1792
-  pub attributes-long : length attributes ≡ 90
-  pub screen-long : length screen ≡ 5760
+  pub tiles-long : length tiles ≡ tilesBytes
+  pub map-long : length map ≡ borderMapBytes
+  pub attributes-long : length attributes ≡ mapBytes
+  pub screen-long : length screen ≡ captureBytes
 
 -- the tables: plane bytes spread over lanes; the border's 48 colours, with the backdrop as the first of each palette; four colours a palette
 pub record Tables (spreads border game : List ℕ) : Type 0 where
@@ -41,7 +42,7 @@ pub record Packs (s : ℕ) (b : List ℕ) (k : ℕ) : Type 0 where
 
 -- the screen's cells are columns 6 to 25 of the border's, from row 40 to row 183
 unfoldable pub within : ℕ → ℕ → Bool
-within c y = (leb 6 c && ltb c 26) && (leb 40 y && ltb y 184)
+within c y = (leb 6 c && ltb c 26) && (leb 40 y && ltb y (40 + 144))
 
 -- the screen's first pixel there
 abbrev pub screenFrom : ℕ → ℕ → ℕ

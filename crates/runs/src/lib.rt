@@ -6,6 +6,7 @@ ghost use Prim.Native.Nat.{_<_, _≤_, _+_, _-_, _*_, _/_};
 ghost use mathlib.Core.Bool.{cond};
 ghost use lib.Dec.{eqb};
 ghost use lib.ListN.{length, getD};
+ghost use Rattle.parts.specs.Parts.{mapBytes, captureBytes};
 ghost use Rattle.bits.specs.Paint.{Painted};
 ghost use Rattle.screen.specs.Packed.{cellAt};
 ghost use Rattle.lanes.specs.Lanes.{lane};
@@ -60,6 +61,9 @@ fn base(entry: BorderMapEntry) -> usize
     0
 }
 
+// The row below the screen, which starts at row 40 and has 144.
+const SCREEN_END: usize = 40 + 144;
+
 // Whether border column c of row y lies on the screen.
 fn within_screen(c: usize, y: usize) -> bool
     ensures { λ r. ⌜ r ≡ within c y ⌝ }
@@ -73,13 +77,13 @@ fn within_screen(c: usize, y: usize) -> bool
     if y < 40 {
         return false;
     }
-    y < 184
+    y < SCREEN_END
 }
 
 // The eight shades of the screen there.
 fn shades(screen: &[u8], c: usize, y: usize) -> u16
-    requires { ⌜ length (now screen) ≡ 5760 ⌝ }
-    requires { ⌜ (6 ≤ c) × (c < 26) × (40 ≤ y) × (y < 184) ⌝ }
+    requires { ⌜ length (now screen) ≡ captureBytes ⌝ }
+    requires { ⌜ (6 ≤ c) × (c < 26) × (40 ≤ y) × (y < 40 + 144) ⌝ }
     ensures { λ r. ⌜ Packs r (now (screen .entry)) (screenFrom c y) ⌝ }
 {
     let at = (y - 40) * 40 + (c - 6) * 2;
@@ -88,8 +92,8 @@ fn shades(screen: &[u8], c: usize, y: usize) -> u16
 
 // The palette number of its cell there.
 fn cell(attributes: &[u8], c: usize, y: usize) -> usize
-    requires { ⌜ length (now attributes) ≡ 90 ⌝ }
-    requires { ⌜ (6 ≤ c) × (c < 26) × (40 ≤ y) × (y < 184) ⌝ }
+    requires { ⌜ length (now attributes) ≡ mapBytes ⌝ }
+    requires { ⌜ (6 ≤ c) × (c < 26) × (40 ≤ y) × (y < 40 + 144) ⌝ }
     ensures { λ r. ⌜ (r ≡ cellAt (now (attributes .entry)) (c - 6) ((y - 40) / 8)) × (r < 4) ⌝ }
 {
     screen::pair_at(attributes, (y - 40) / 8 * 20 + (c - 6))

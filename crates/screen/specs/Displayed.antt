@@ -5,6 +5,7 @@ use mathlib.Core.List.{List, []}
 use mathlib.Core.Bool.{cond}
 use lib.ListN.{length}
 use lib.Dec.{eqb}
+use Rattle.parts.specs.Parts.{captureBytes}
 
 unfoldable pub displayed : List ℕ → List ℕ → ℕ → List ℕ
-displayed live frozen mode = cond (eqb (length live) 5760) (cond (eqb (length frozen) 5760) (cond (eqb mode 1) frozen live) []) []
+displayed live frozen mode = cond (eqb (length live) captureBytes) (cond (eqb (length frozen) captureBytes) (cond (eqb mode 1) frozen live) []) []

@@ -4,6 +4,7 @@ use colour::Rgb555;
 ghost use mathlib.Core.Path.{_≡_};
 ghost use Prim.Native.Nat.{_<_, _/_};
 ghost use lib.ListN.{length};
+ghost use Rattle.parts.specs.Parts.{presetBytes, palettesBytes, mapBytes, captureBytes};
 ghost use Rattle.screen.specs.Packed.{pairAt};
 ghost use Rattle.screen.specs.Displayed.{displayed};
 ghost use Rattle.screen.specs.Colours.{colourOf, backdropOf, shadedOf, maskedOf, colourAt, screenPixel};
@@ -12,10 +13,10 @@ ghost use Rattle.screen.specs.Colours.{colourOf, backdropOf, shadedOf, m
 pub fn displayed_screen<'a>(live: &'a [u8], frozen: &'a [u8], mode: u8) -> &'a [u8]
     ensures { λ r. ⌜ now r ≡ displayed (now (live .entry)) (now (frozen .entry)) mode ⌝ }
 {
-    if live.len() != 5760 {
+    if live.len() != parts::CAPTURE_BYTES {
         return &live[..0];
     }
-    if frozen.len() != 5760 {
+    if frozen.len() != parts::CAPTURE_BYTES {
         return &live[..0];
     }
     if mode == 1 { frozen } else { live }
@@ -32,7 +33,7 @@ pub fn pixel(
     x: usize,
     y: usize,
 ) -> Rgb555
-    requires { ⌜ (length (now palettes) ≡ 32) × (length (now preset) ≡ 8) × (length (now attributes) ≡ 90) × (length (now screen) ≡ 5760) ⌝ }
+    requires { ⌜ (length (now palettes) ≡ palettesBytes) × (length (now preset) ≡ presetBytes) × (length (now attributes) ≡ mapBytes) × (length (now screen) ≡ captureBytes) ⌝ }
     requires { ⌜ (x < 160) × (y < 144) ⌝ }
     ensures { λ r. ⌜ r .0 ≡ screenPixel (now (palettes .entry)) (now (preset .entry)) «in_force» (now (attributes .entry)) (now (screen .entry)) mode x y ⌝ }
 {
@@ -51,7 +52,7 @@ pub fn color_at(
     y: usize,
     shade: usize,
 ) -> Rgb555
-    requires { ⌜ (length (now palettes) ≡ 32) × (length (now preset) ≡ 8) × (length (now attributes) ≡ 90) ⌝ }
+    requires { ⌜ (length (now palettes) ≡ palettesBytes) × (length (now preset) ≡ presetBytes) × (length (now attributes) ≡ mapBytes) ⌝ }
     requires { ⌜ (x < 160) × (y < 144) × (shade < 4) ⌝ }
     ensures { λ r. ⌜ r .0 ≡ colourAt (now (palettes .entry)) (now (preset .entry)) «in_force» (now (attributes .entry)) x y shade ⌝ }
 {
@@ -68,7 +69,7 @@ pub fn masked(
     n: usize,
     shade: usize,
 ) -> Rgb555
-    requires { ⌜ (length (now palettes) ≡ 32) × (length (now preset) ≡ 8) × (n < 4) × (shade < 4) ⌝ }
+    requires { ⌜ (length (now palettes) ≡ palettesBytes) × (length (now preset) ≡ presetBytes) × (n < 4) × (shade < 4) ⌝ }
     ensures { λ r. ⌜ r .0 ≡ maskedOf (now (palettes .entry)) (now (preset .entry)) «in_force» mode n shade ⌝ }
 {
     if mode == 2 {
@@ -82,7 +83,7 @@ pub fn masked(
 
 // A shade under palette n. Shade 0 is transparent on the SNES, so every palette shows the one backdrop.
 pub fn shaded(palettes: &[u8], preset: &[u8], in_force: bool, n: usize, shade: usize) -> Rgb555
-    requires { ⌜ (length (now palettes) ≡ 32) × (length (now preset) ≡ 8) × (n < 4) × (shade < 4) ⌝ }
+    requires { ⌜ (length (now palettes) ≡ palettesBytes) × (length (now preset) ≡ presetBytes) × (n < 4) × (shade < 4) ⌝ }
     ensures { λ r. ⌜ r .0 ≡ shadedOf (now (palettes .entry)) (now (preset .entry)) «in_force» n shade ⌝ }
 {
     if shade == 0 {
@@ -92,7 +93,7 @@ pub fn shaded(palettes: &[u8], preset: &[u8], in_force: bool, n: usize, shade: u
 }
 
 pub fn backdrop(palettes: &[u8], preset: &[u8], in_force: bool) -> Rgb555
-    requires { ⌜ (length (now palettes) ≡ 32) × (length (now preset) ≡ 8) ⌝ }
+    requires { ⌜ (length (now palettes) ≡ palettesBytes) × (length (now preset) ≡ presetBytes) ⌝ }
     ensures { λ r. ⌜ r .0 ≡ backdropOf (now (palettes .entry)) (now (preset .entry)) «in_force» ⌝ }
 {
     color(palettes, preset, in_force, 0, 0)
@@ -100,7 +101,7 @@ pub fn backdrop(palettes: &[u8], preset: &[u8], in_force: bool) -> Rgb555
 
 // Colour k of palette n. The preset stands for all four palettes while it is in force.
 fn color(palettes: &[u8], preset: &[u8], in_force: bool, n: usize, k: usize) -> Rgb555
-    requires { ⌜ (length (now palettes) ≡ 32) × (length (now preset) ≡ 8) × (n < 4) × (k < 4) ⌝ }
+    requires { ⌜ (length (now palettes) ≡ palettesBytes) × (length (now preset) ≡ presetBytes) × (n < 4) × (k < 4) ⌝ }
     ensures { λ r. ⌜ r .0 ≡ colourOf (now (palettes .entry)) (now (preset .entry)) «in_force» n k ⌝ }
 {
     if in_force {

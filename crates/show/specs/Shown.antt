@@ -3,7 +3,7 @@ use Prim.Native.Nat.{ℕ}
 use mathlib.Core.List.{List}
 use lib.ListN.{set}
 use Rattle.transfer.specs.Pending.{countdownOf, kindOf, screened}
-use Rattle.layout.specs.Layout.{countdownAt, kindAt}
+use Rattle.parts.specs.Parts.{countdownAt, kindAt}
 use Rattle.layout.specs.Block.{load, save}
 use Rattle.layout.specs.Sgb.{Sgb, Snes}
 

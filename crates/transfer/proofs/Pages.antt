@@ -13,7 +13,7 @@ use Rattle.bits.specs.Tab.{tab}
 use Rattle.bits.proofs.Tabs.{getD-tab}
 use Rattle.bits.proofs.Painting.{painted-turn, painted-count, painted-run, painted-same, painted-all}
 use Rattle.screen.specs.Packed.{pairAt, shadeAt}
-use Rattle.transfer.specs.Page.{planeByte, pageOf}
+use Rattle.transfer.specs.Page.{planeByte, pageBytes, pageOf}
 use Rattle.transfer.specs.Passes.{planeAt, planesOf, tileByte, tilesByte}
 
 -- a byte of eight bits is told by its bits
@@ -91,12 +91,12 @@ place-in : (t r p : ℕ) → t < 256 → r < 8 → p < 2 → t / 20 * 320 + t % 
 place-in t r p ht hr hp = omega arith
 
 -- both passes
-pub page-is : (s l m rows : List ℕ) → Painted m l 0 4096 (tilesByte rows) → rows ≡ planesOf s → length l ≡ 4096 → m ≡ pageOf s
+pub page-is : (s l m rows : List ℕ) → Painted m l 0 pageBytes (tilesByte rows) → rows ≡ planesOf s → length l ≡ pageBytes → m ≡ pageOf s
 unfolding pageOf tilesByte tileByte planesOf planeAt
 page-is s l m rows p e h =
     painted-all (painted-same p (λ k. planeByte s (k / 16) (k % 16 / 2) (k % 2)) (λ k lt. ap (λ (r : List ℕ). tilesByte r k) e ∙ byte k lt)) h
   where
-    byte : (k : ℕ) → k < 4096 → tilesByte (planesOf s) k ≡ planeByte s (k / 16) (k % 16 / 2) (k % 2)
+    byte : (k : ℕ) → k < pageBytes → tilesByte (planesOf s) k ≡ planeByte s (k / 16) (k % 16 / 2) (k % 2)
     byte k lt =
         let t : ℕ = k / 16 in
         let r : ℕ = k % 16 / 2 in

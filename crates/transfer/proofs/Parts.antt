@@ -5,34 +5,35 @@ use Prim.Native.Nat.{ℕ, _+_, _/_, _%_, _≤_}
 use native.Mathlib.Omega.{arith}
 use lib.ListN.{length, take, drop, drop-of-length-le, length-take, length-drop}
 use lib.Seq.{take-at, drop-at}
+use Rattle.parts.specs.Parts.{filesBytes, borderMapBytes, borderPalettesBytes, borderBytes}
 use Rattle.bits.specs.Over.{over}
 use Rattle.bits.proofs.Overs.{over-all, over-rest}
 use Rattle.bits.proofs.Tabs.{length-tab}
-use Rattle.transfer.specs.Page.{planeByte, pageOf}
+use Rattle.transfer.specs.Page.{planeByte, pageBytes, pageOf}
 use Rattle.transfer.specs.Landing.{filesLanded, mapLanded}
 
-pub page-long : (s : List ℕ) → length (pageOf s) ≡ 4096
+pub page-long : (s : List ℕ) → length (pageOf s) ≡ pageBytes
 unfolding pageOf
-page-long s = length-tab 4096 (λ k. planeByte s (k / 16) (k % 16 / 2) (k % 2))
+page-long s = length-tab pageBytes (λ k. planeByte s (k / 16) (k % 16 / 2) (k % 2))
 
 -- the attribute files, and the map with its palettes: parts of the page, one after the other
-pub files-are : (s page part out : List ℕ) → page ≡ pageOf s → length part ≡ 4050
-    → out ≡ over 0 (length (take 4050 page)) (take 4050 page) part → out ≡ filesLanded s
+pub files-are : (s page part out : List ℕ) → page ≡ pageOf s → length part ≡ filesBytes
+    → out ≡ over 0 (length (take filesBytes page)) (take filesBytes page) part → out ≡ filesLanded s
 unfolding filesLanded
 files-are s page part out e h q =
-    let long : length page ≡ 4096 = ap length e ∙ page-long s in
-    let n : length (take 4050 page) ≡ 4050 = simp length-take (omega arith) in
-    q ∙ over-all (length (take 4050 page)) (take 4050 page) part (h ∙ sym n) ∙ ap (take 4050) e
+    let long : length page ≡ pageBytes = ap length e ∙ page-long s in
+    let n : length (take filesBytes page) ≡ filesBytes = simp length-take (omega arith) in
+    q ∙ over-all (length (take filesBytes page)) (take filesBytes page) part (h ∙ sym n) ∙ ap (take filesBytes) e
 
-pub map-is : (s page part mid out : List ℕ) → page ≡ pageOf s → length part ≡ 1888
-    → mid ≡ over 0 (length (take 1792 page)) (take 1792 page) part
-    → out ≡ over 1792 (length (take 96 (drop 2048 page))) (take 96 (drop 2048 page)) mid → out ≡ mapLanded s
+pub map-is : (s page part mid out : List ℕ) → page ≡ pageOf s → length part ≡ borderBytes
+    → mid ≡ over 0 (length (take borderMapBytes page)) (take borderMapBytes page) part
+    → out ≡ over borderMapBytes (length (take borderPalettesBytes (drop 0x800 page))) (take borderPalettesBytes (drop 0x800 page)) mid → out ≡ mapLanded s
 unfolding mapLanded
 map-is s page part mid out e h q r =
-    let long : length page ≡ 4096 = ap length e ∙ page-long s in
-    let n : length (take 1792 page) ≡ 1792 = simp length-take (omega arith) in
-    let m : length (take 96 (drop 2048 page)) ≡ 96 = simp (length-take, length-drop) (omega arith) in
+    let long : length page ≡ pageBytes = ap length e ∙ page-long s in
+    let n : length (take borderMapBytes page) ≡ borderMapBytes = simp length-take (omega arith) in
+    let m : length (take borderPalettesBytes (drop 0x800 page)) ≡ borderPalettesBytes = simp (length-take, length-drop) (omega arith) in
     r
-    ∙ ap₂ (λ (k : ℕ) (b : List ℕ). over 1792 k (take 96 (drop 2048 page)) b) m (q ∙ ap (λ (k : ℕ). over 0 k (take 1792 page) part) n)
-    ∙ over-rest 1792 96 (take 1792 page) (take 96 (drop 2048 page)) part n h
-    ∙ ap (λ (p : List ℕ). take 1792 p ++ take 96 (drop 2048 p)) e
+    ∙ ap₂ (λ (k : ℕ) (b : List ℕ). over borderMapBytes k (take borderPalettesBytes (drop 0x800 page)) b) m (q ∙ ap (λ (k : ℕ). over 0 k (take borderMapBytes page) part) n)
+    ∙ over-rest borderMapBytes borderPalettesBytes (take borderMapBytes page) (take borderPalettesBytes (drop 0x800 page)) part n h
+    ∙ ap (λ (p : List ℕ). take borderMapBytes p ++ take borderPalettesBytes (drop 0x800 p)) e

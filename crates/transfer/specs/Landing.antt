@@ -1,9 +1,10 @@
 -- What each landing leaves in its own part of the block.
 -- Document 01, Screens, border and picture: "Landing: 512 palettes; 45 files of 90; 4,096 tile bytes into a half; map words from bytes 0 to 6FF hex
 -- with three palettes from byte 800 hex". Pan Docs, Palettes (PAL_TRN), Attributes (ATTR_TRN), Border (CHR_TRN, PCT_TRN).
-use Prim.Native.Nat.{ℕ, _*_}
+use Prim.Native.Nat.{ℕ}
 use mathlib.Core.List.{List, _++_}
 use lib.ListN.{take, drop}
+use Rattle.parts.specs.Parts.{filesBytes, borderMapBytes, borderPalettesBytes}
 use Rattle.transfer.specs.Page.{pageOf}
 
 -- 512 palettes of four words
@@ -12,7 +13,7 @@ palettesLanded screen = pageOf screen
 
 -- 45 files of 90 bytes
 unfoldable pub filesLanded : List ℕ → List ℕ
-filesLanded screen = take (45 * 90) (pageOf screen)
+filesLanded screen = take filesBytes (pageOf screen)
 
 -- half of the border's tiles: 128 of 32 bytes
 unfoldable pub tilesLanded : List ℕ → List ℕ
@@ -20,4 +21,4 @@ tilesLanded screen = pageOf screen
 
 -- the border's map, 32 by 28 words, then its three palettes of sixteen words, which the page has from 800 hex on
 unfoldable pub mapLanded : List ℕ → List ℕ
-mapLanded screen = take (32 * 28 * 2) (pageOf screen) ++ take (3 * 16 * 2) (drop 2048 (pageOf screen))
+mapLanded screen = take borderMapBytes (pageOf screen) ++ take borderPalettesBytes (drop 0x800 (pageOf screen))

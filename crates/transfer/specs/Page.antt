@@ -12,6 +12,9 @@ use Rattle.screen.specs.Packed.{shadeAt}
 unfoldable pub planeByte : List ℕ → ℕ → ℕ → ℕ → ℕ
 planeByte screen t r p = byteOf (λ j. bitAt p (shadeAt screen (t % 20 * 8 + j) (t / 20 * 8 + r)))
 
--- sixteen bytes a tile, two a row
+-- 256 tiles of sixteen bytes, two a row
+abbrev pub pageBytes : ℕ
+pageBytes = 256 * 16
+
 unfoldable pub pageOf : List ℕ → List ℕ
-pageOf screen = tab 4096 (λ k. planeByte screen (k / 16) (k % 16 / 2) (k % 2))
+pageOf screen = tab pageBytes (λ k. planeByte screen (k / 16) (k % 16 / 2) (k % 2))

@@ -9,7 +9,7 @@ use lib.Dec.{eqb, leb}
 use lib.ListN.{length}
 use Rattle.pulses.specs.Answer.{Answer, refused, given}
 use Rattle.transfer.specs.declared.pending.Landed.{Landed}
-use Rattle.layout.specs.Layout.{storeBytes, captureBytes}
+use Rattle.parts.specs.Parts.{blockBytes, storeBytes, captureBytes}
 use Rattle.layout.specs.Block.{load, save}
 use Rattle.layout.specs.Fresh.{new, postBoot}
 use Rattle.layout.specs.Valid.{Valid}
@@ -70,18 +70,18 @@ module _ (b x : List ℕ) where
 
 -- ---- the fresh blocks
 
-pub new-refused : (b : List ℕ) → (length b ≡ 30020 → ⊥) → (1 ≡ freshAnswer b) × (b ≡ newBlock b)
+pub new-refused : (b : List ℕ) → (length b ≡ blockBytes → ⊥) → (1 ≡ freshAnswer b) × (b ≡ newBlock b)
 unfolding freshAnswer newBlock
-new-refused b h = rw (ne-eqb (length b) 30020 h) (refl, refl)
+new-refused b h = rw (ne-eqb (length b) blockBytes h) (refl, refl)
 
-pub new-made : (b m : List ℕ) → length b ≡ 30020 → m ≡ new → (0 ≡ freshAnswer b) × (m ≡ newBlock b)
+pub new-made : (b m : List ℕ) → length b ≡ blockBytes → m ≡ new → (0 ≡ freshAnswer b) × (m ≡ newBlock b)
 unfolding freshAnswer newBlock
-new-made b m h e = rw (eq-eqb (length b) 30020 h) (refl, e)
+new-made b m h e = rw (eq-eqb (length b) blockBytes h) (refl, e)
 
-pub boot-refused : (b : List ℕ) → (length b ≡ 30020 → ⊥) → (1 ≡ freshAnswer b) × (b ≡ postBootBlock b)
+pub boot-refused : (b : List ℕ) → (length b ≡ blockBytes → ⊥) → (1 ≡ freshAnswer b) × (b ≡ postBootBlock b)
 unfolding freshAnswer postBootBlock
-boot-refused b h = rw (ne-eqb (length b) 30020 h) (refl, refl)
+boot-refused b h = rw (ne-eqb (length b) blockBytes h) (refl, refl)
 
-pub boot-made : (b m : List ℕ) → length b ≡ 30020 → m ≡ postBoot → (0 ≡ freshAnswer b) × (m ≡ postBootBlock b)
+pub boot-made : (b m : List ℕ) → length b ≡ blockBytes → m ≡ postBoot → (0 ≡ freshAnswer b) × (m ≡ postBootBlock b)
 unfolding freshAnswer postBootBlock
-boot-made b m h e = rw (eq-eqb (length b) 30020 h) (refl, e)
+boot-made b m h e = rw (eq-eqb (length b) blockBytes h) (refl, e)

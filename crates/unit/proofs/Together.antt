@@ -11,7 +11,7 @@ use lib.Dec.{leb, eqb}
 use lib.ListN.{length, drop, length-append, length-drop}
 use Rattle.pulses.specs.Answer.{Answer, refused, given}
 use Rattle.transfer.specs.declared.pending.Landed.{Landed}
-use Rattle.layout.specs.Layout.{storeBytes, captureBytes}
+use Rattle.parts.specs.Parts.{storeBytes, captureBytes}
 use Rattle.layout.specs.Block.{load, save}
 use Rattle.layout.specs.Valid.{valid, Valid}
 use Rattle.layout.proofs.Saved.{clauses}

@@ -9,7 +9,7 @@ use lib.Dec.{eqb, leb}
 use lib.ListN.{length}
 use Rattle.pulses.specs.Answer.{Answer, refused, given}
 use Rattle.transfer.specs.declared.pending.Landed.{Landed}
-use Rattle.layout.specs.Layout.{blockBytes, storeBytes, captureBytes}
+use Rattle.parts.specs.Parts.{blockBytes, storeBytes, captureBytes}
 use Rattle.layout.specs.Block.{load, save}
 use Rattle.layout.specs.Fresh.{new, postBoot}
 use Rattle.rules.specs.Write.{written, answer}

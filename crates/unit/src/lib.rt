@@ -6,7 +6,7 @@ ghost use Prim.Native.Nat.{_*_, _≤_};
 ghost use lib.ListN.{length, take};
 ghost use Rattle.attributes.specs.Data.{Whole};
 ghost use Rattle.commands.specs.Command.{decode};
-ghost use Rattle.layout.specs.Layout.{storeBytes};
+ghost use Rattle.parts.specs.Parts.{storeBytes};
 ghost use Rattle.layout.specs.Block.{load, save};
 ghost use Rattle.layout.specs.Valid.{Valid};
 ghost use Rattle.rules.specs.Write.{written, answer};
@@ -40,7 +40,7 @@ pub fn write_joypad(block: &mut [u8], value: u8, command: &mut [u8]) -> Written
     if no != 0 {
         return Written::Refused(no);
     }
-    if command.len() < 112 {
+    if command.len() < parts::STORE_BYTES {
         return Written::Refused(6);
     }
     let n = write(block, value, command);
@@ -66,7 +66,7 @@ pub fn write(block: &mut [u8], value: u8, command: &mut [u8]) -> u8
 }
 
 // The command of n packets at the front of the buffer, carried out.
-fn carry(block: &mut [u8], command: &[u8], n: u8)
+pub fn carry(block: &mut [u8], command: &[u8], n: u8)
     requires { ⌜ Valid (now block) × Whole (take (16 * n) (now command)) × (16 * n ≤ length (now command)) ⌝ }
     ensures { λ _. ⌜ now (block .exit) ≡ carriedBlock (decode (take (16 * n) (now (command .entry)))) (now (block .entry)) ⌝ }
 {
@@ -83,7 +83,7 @@ pub fn update_screen(block: &mut [u8], screen: &[u8]) -> Shown
     if no != 0 {
         return Shown::Refused(no);
     }
-    if screen.len() != 5760 {
+    if screen.len() != parts::CAPTURE_BYTES {
         return Shown::Refused(3);
     }
     Shown::Took(show::show(block, screen))
@@ -94,7 +94,7 @@ pub fn new(block: &mut [u8]) -> u8
     ensures { λ r. ⌜ r ≡ freshAnswer (now (block .entry)) ⌝ }
     ensures { λ _. ⌜ now (block .exit) ≡ newBlock (now (block .entry)) ⌝ }
 {
-    if block.len() != layout::BLOCK {
+    if block.len() != parts::BLOCK {
         return 1;
     }
     fresh::new(block);
@@ -105,7 +105,7 @@ pub fn post_boot(block: &mut [u8]) -> u8
     ensures { λ r. ⌜ r ≡ freshAnswer (now (block .entry)) ⌝ }
     ensures { λ _. ⌜ now (block .exit) ≡ postBootBlock (now (block .entry)) ⌝ }
 {
-    if block.len() != layout::BLOCK {
+    if block.len() != parts::BLOCK {
         return 1;
     }
     fresh::post_boot(block);

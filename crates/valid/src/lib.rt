@@ -5,7 +5,7 @@ ghost use Prim.Native.Nat.{_^_, _≤_};
 ghost use mathlib.Core.Bool.{true, cond};
 ghost use lib.Dec.{ltb};
 ghost use lib.ListN.{length};
-ghost use Rattle.layout.specs.Layout.{blockBytes};
+ghost use Rattle.parts.specs.Parts.{blockBytes};
 ghost use Rattle.layout.specs.Block.{isSet, load};
 ghost use Rattle.layout.specs.Valid as spec;
 ghost use Rattle.receiver.specs.Receive.{words};
@@ -20,7 +20,7 @@ use receiver::packet_count;
 pub fn valid(block: &[u8]) -> bool
     ensures { λ r. ⌜ r ≡ spec.valid (now (block .entry)) ⌝ }
 {
-    if block.len() != layout::BLOCK {
+    if block.len() != parts::BLOCK {
         return false;
     }
     if !v1(block) {
@@ -46,14 +46,14 @@ pub fn v1(block: &[u8]) -> bool
     requires { ⌜ length (now block) ≡ blockBytes ⌝ }
     ensures { λ r. ⌜ r ≡ spec.v1 (now (block .entry)) ⌝ }
 {
-    if block[layout::MASK] > 3 {
+    if block[parts::MASK] > 3 {
         return false;
     }
-    let pads = block[layout::PADS];
+    let pads = block[parts::PADS];
     if pads > 3 {
         return false;
     }
-    let index = block[layout::INDEX];
+    let index = block[parts::INDEX];
     index & pads == index
 }
 
@@ -62,22 +62,22 @@ pub fn v2(block: &[u8]) -> bool
     requires { ⌜ length (now block) ≡ blockBytes ⌝ }
     ensures { λ r. ⌜ r ≡ spec.v2 (now (block .entry)) ⌝ }
 {
-    if block[layout::P15] > 1 {
+    if block[parts::P15] > 1 {
         return false;
     }
-    if block[layout::BOTH] > 1 {
+    if block[parts::BOTH] > 1 {
         return false;
     }
-    if block[layout::PRESET_ON] > 1 {
+    if block[parts::PRESET_ON] > 1 {
         return false;
     }
-    if block[layout::FROZEN_ON] > 1 {
+    if block[parts::FROZEN_ON] > 1 {
         return false;
     }
-    if !lines_agree(block[layout::P15], block[layout::BOTH]) {
+    if !lines_agree(block[parts::P15], block[parts::BOTH]) {
         return false;
     }
-    all_zero(&block[layout::SPARE..layout::PACKET])
+    all_zero(&block[parts::SPARE..parts::PACKET])
 }
 
 // Both lines are high only if P15 is.
@@ -92,7 +92,7 @@ pub fn v3(block: &[u8]) -> bool
     requires { ⌜ length (now block) ≡ blockBytes ⌝ }
     ensures { λ r. ⌜ r ≡ spec.v3 (now (block .entry)) ⌝ }
 {
-    let stage = block[layout::STAGE];
+    let stage = block[parts::STAGE];
     if stage == 0 {
         return idle(block);
     }
@@ -110,19 +110,19 @@ fn idle(block: &[u8]) -> bool
     requires { ⌜ length (now block) ≡ blockBytes ⌝ }
     ensures { λ r. ⌜ r ≡ v3At Idle (load (now (block .entry)) .port .rx) (load (now (block .entry)) .port .store) ⌝ }
 {
-    if block[layout::EXPECTED] != 0 {
+    if block[parts::EXPECTED] != 0 {
         return false;
     }
-    if block[layout::RECEIVED] != 0 {
+    if block[parts::RECEIVED] != 0 {
         return false;
     }
-    if block[layout::BITS] != 0 {
+    if block[parts::BITS] != 0 {
         return false;
     }
-    if !all_zero(&block[layout::PACKET..layout::STORE]) {
+    if !all_zero(&block[parts::PACKET..parts::STORE]) {
         return false;
     }
-    all_zero(&block[layout::STORE..layout::PRESET])
+    all_zero(&block[parts::STORE..parts::PRESET])
 }
 
 // "Receiving: bit index at most 128, packet bits at and past it zero. .. Receiving with received 0: expected 0 and store zero."
@@ -130,24 +130,24 @@ fn receiving(block: &[u8]) -> bool
     requires { ⌜ length (now block) ≡ blockBytes ⌝ }
     ensures { λ r. ⌜ r ≡ v3At Receiving (load (now (block .entry)) .port .rx) (load (now (block .entry)) .port .store) ⌝ }
 {
-    let bits = block[layout::BITS];
+    let bits = block[parts::BITS];
     if bits > 128 {
         return false;
     }
     if !clear_from(
-        half(block, layout::PACKET),
-        half(block, layout::PACKET + 8),
+        half(block, parts::PACKET),
+        half(block, parts::PACKET + 8),
         bits,
     ) {
         return false;
     }
-    if block[layout::RECEIVED] != 0 {
+    if block[parts::RECEIVED] != 0 {
         return some_in(block);
     }
-    if block[layout::EXPECTED] != 0 {
+    if block[parts::EXPECTED] != 0 {
         return false;
     }
-    all_zero(&block[layout::STORE..layout::PRESET])
+    all_zero(&block[parts::STORE..parts::PRESET])
 }
 
 // "Awaiting: bit index and current packet zero."
@@ -155,10 +155,10 @@ fn awaiting(block: &[u8]) -> bool
     requires { ⌜ length (now block) ≡ blockBytes ⌝ }
     ensures { λ r. ⌜ r ≡ v3At Awaiting (load (now (block .entry)) .port .rx) (load (now (block .entry)) .port .store) ⌝ }
 {
-    if block[layout::BITS] != 0 {
+    if block[parts::BITS] != 0 {
         return false;
     }
-    if !all_zero(&block[layout::PACKET..layout::STORE]) {
+    if !all_zero(&block[parts::PACKET..parts::STORE]) {
         return false;
     }
     some_in(block)
@@ -186,8 +186,8 @@ fn some_in(block: &[u8]) -> bool
     requires { ⌜ length (now block) ≡ blockBytes ⌝ }
     ensures { λ r. ⌜ r ≡ later (load (now (block .entry)) .port .rx .expected) (load (now (block .entry)) .port .rx .received) (load (now (block .entry)) .port .store) ⌝ }
 {
-    let received = block[layout::RECEIVED];
-    let expected = block[layout::EXPECTED];
+    let received = block[parts::RECEIVED];
+    let expected = block[parts::EXPECTED];
     if received < 1 {
         return false;
     }
@@ -197,11 +197,11 @@ fn some_in(block: &[u8]) -> bool
     if expected > 7 {
         return false;
     }
-    if expected != packet_count(block[layout::STORE]) {
+    if expected != packet_count(block[parts::STORE]) {
         return false;
     }
-    let past = layout::STORE + 16 * wide(received);
-    all_zero(&block[past..layout::PRESET])
+    let past = parts::STORE + 16 * wide(received);
+    all_zero(&block[past..parts::PRESET])
 }
 
 // "Countdown and kind both 0, or countdown 1 to 3 and kind 0 to 4."
@@ -209,8 +209,8 @@ pub fn v4(block: &[u8]) -> bool
     requires { ⌜ length (now block) ≡ blockBytes ⌝ }
     ensures { λ r. ⌜ r ≡ spec.v4 (now (block .entry)) ⌝ }
 {
-    let countdown = block[layout::COUNTDOWN];
-    let kind = block[layout::KIND];
+    let countdown = block[parts::COUNTDOWN];
+    let kind = block[parts::KIND];
     if countdown == 0 {
         return kind == 0;
     }
@@ -225,10 +225,10 @@ pub fn v5(block: &[u8]) -> bool
     requires { ⌜ length (now block) ≡ blockBytes ⌝ }
     ensures { λ r. ⌜ r ≡ spec.v5 (now (block .entry)) ⌝ }
 {
-    if block[layout::PRESET_ON] != 0 {
+    if block[parts::PRESET_ON] != 0 {
         return true;
     }
-    all_zero(&block[layout::PRESET..layout::PALETTES])
+    all_zero(&block[parts::PRESET..parts::PALETTES])
 }
 
 // "Mask 1 needs byte 12 = 1; masks 2 and 3 need it 0; mask 0 allows either. If byte 12 is 0 the frozen capture is zero."
@@ -236,13 +236,13 @@ pub fn v6(block: &[u8]) -> bool
     requires { ⌜ length (now block) ≡ blockBytes ⌝ }
     ensures { λ r. ⌜ r ≡ spec.v6 (now (block .entry)) ⌝ }
 {
-    if !mask_allows(block[layout::MASK], block[layout::FROZEN_ON]) {
+    if !mask_allows(block[parts::MASK], block[parts::FROZEN_ON]) {
         return false;
     }
-    if block[layout::FROZEN_ON] != 0 {
+    if block[parts::FROZEN_ON] != 0 {
         return true;
     }
-    all_zero(&block[layout::FROZEN..layout::TILES])
+    all_zero(&block[parts::FROZEN..parts::TILES])
 }
 
 fn mask_allows(mask: u8, frozen_on: u8) -> bool

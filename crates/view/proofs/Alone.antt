@@ -13,7 +13,7 @@ use Rattle.bits.proofs.Tabs.{length-tab}
 use Rattle.picture.specs.Picture.{Parts, pixelAt, rowOf, pictureOf}
 use Rattle.picture.proofs.Rows.{row-of-picture}
 use Rattle.pulses.specs.Answer.{Answer, refused, given}
-use Rattle.layout.specs.Layout.{blockBytes}
+use Rattle.parts.specs.Parts.{blockBytes}
 use Rattle.layout.specs.Block.{load}
 use Rattle.layout.specs.Valid.{valid}
 use Rattle.view.specs.Refusal.{refusing}

@@ -11,9 +11,8 @@ use Rattle.bits.specs.Over.{part}
 use Rattle.bits.proofs.Overs.{length-part}
 use Rattle.screen.specs.Displayed.{displayed}
 use Rattle.picture.specs.Picture.{Parts, parts as lentParts}
-use Rattle.layout.specs.Layout.{blockBytes, sizes, liveAt, frozenAt, captureBytes}
+use Rattle.parts.specs.Parts.{blockBytes, headerBytes, liveAt, captureBytes, frozenAt, sizes, sum}
 use Rattle.layout.specs.Block.{byte, header, parts, load}
-use Rattle.layout.proofs.Cut.{sum}
 use Rattle.layout.proofs.Made.{made-of, made-get, made-byte}
 use Rattle.view.specs.Refusal.{Valid}
 use Rattle.view.specs.Drawn.{partsOf}
@@ -41,7 +40,7 @@ module _ (b : List ℕ) (v : Valid b) where
   lent k h fits = (made-get (made-of b (v .tested)) k h, length-part (sum (take k sizes)) (getD sizes k 0) b (omega (arith, v .long)))
 
   -- byte j of the header
-  pub header-lent : (j : ℕ) → j < 16 → byte j b ≡ getD (header (load b)) j 0
+  pub header-lent : (j : ℕ) → j < headerBytes → byte j b ≡ getD (header (load b)) j 0
   header-lent j h = made-byte (made-of b (v .tested)) j h
 
   -- the capture that is displayed under the unit's mode

@@ -8,7 +8,7 @@ use lib.Dec.{eqb}
 use lib.ListN.{length}
 use borrow.Author.Tests.{eqb-true, eq-eqb}
 use Rattle.pulses.specs.Answer.{Answer, refused, given}
-use Rattle.layout.specs.Layout.{blockBytes}
+use Rattle.parts.specs.Parts.{blockBytes}
 use Rattle.layout.specs.Valid.{valid}
 use Rattle.view.specs.Refusal.{refusing, refusalOf, Valid}
 use Rattle.view.specs.Drawn.{leaves}

@@ -12,7 +12,7 @@ use Rattle.screen.specs.Displayed.{displayed}
 use Rattle.screen.specs.Colours.{backdropOf, colourAt}
 use Rattle.border.specs.Border.{entryAt, borderAt}
 use Rattle.picture.specs.Picture.{Parts, rowOf, pictureOf}
-use Rattle.layout.specs.Layout.{presetBytes, captureBytes}
+use Rattle.parts.specs.Parts.{presetBytes, captureBytes}
 use Rattle.layout.specs.Block.{isSet, isHeld, heldBytes, load}
 use Rattle.layout.specs.Sgb.{Sgb}
 use Rattle.view.specs.Refusal.{refusing}

@@ -7,7 +7,7 @@ use mathlib.Core.List.{List}
 use lib.Dec.{eqb}
 use lib.ListN.{length}
 use Rattle.pulses.specs.Answer.{Answer, refused}
-use Rattle.layout.specs.Layout.{blockBytes}
+use Rattle.parts.specs.Parts.{blockBytes}
 use Rattle.layout.specs.Valid.{valid}
 pub use Rattle.layout.specs.Valid.{Valid}
 

@@ -7,7 +7,7 @@ ghost use Rattle.border.specs.Border.{entryAt, colourOf};
 ghost use Rattle.layout.specs.Block.{load};
 ghost use Rattle.view.specs.Refusal.{Valid};
 ghost use Rattle.view.specs.Drawn.{partsOf, backdropIn, shadeIn, borderIn, rowDrawn, pictureDrawn};
-use super::parts;
+use super::of_block;
 use border::BorderColor;
 use colour::BorderMapEntry;
 use colour::Rgb555;
@@ -17,9 +17,9 @@ pub fn backdrop(block: &[u8]) -> Rgb555
     ensures { λ r. ⌜ r .0 ≡ backdropIn (partsOf (load (now (block .entry)))) ⌝ }
 {
     screen::backdrop(
-        parts::palettes(block),
-        parts::preset(block),
-        parts::in_force(block),
+        of_block::palettes(block),
+        of_block::preset(block),
+        of_block::in_force(block),
     )
 }
 
@@ -29,10 +29,10 @@ pub fn shade(block: &[u8], x: usize, y: usize, shade: u8) -> Rgb555
     ensures { λ r. ⌜ r .0 ≡ shadeIn (partsOf (load (now (block .entry)))) x y shade ⌝ }
 {
     screen::color_at(
-        parts::palettes(block),
-        parts::preset(block),
-        parts::in_force(block),
-        parts::attributes(block),
+        of_block::palettes(block),
+        of_block::preset(block),
+        of_block::in_force(block),
+        of_block::attributes(block),
         x,
         y,
         bits::wide(shade),
@@ -44,7 +44,7 @@ pub fn entry(block: &[u8], column: usize, row: usize) -> BorderMapEntry
     requires { ⌜ (column < 32) × (row < 28) ⌝ }
     ensures { λ r. ⌜ r .0 ≡ entryAt (partsOf (load (now (block .entry))) .map) column row ⌝ }
 {
-    border::map_entry(parts::map(block), column, row)
+    border::map_entry(of_block::map(block), column, row)
 }
 
 pub fn border(block: &[u8], x: usize, y: usize) -> BorderColor
@@ -53,9 +53,9 @@ pub fn border(block: &[u8], x: usize, y: usize) -> BorderColor
     ensures { λ r. ⌜ colourOf r ≡ borderIn (partsOf (load (now (block .entry)))) x y ⌝ }
 {
     border::color_at(
-        parts::tiles(block),
-        parts::map(block),
-        parts::borders(block),
+        of_block::tiles(block),
+        of_block::map(block),
+        of_block::borders(block),
         x,
         y,
     )
@@ -68,15 +68,15 @@ pub fn draw_row(block: &[u8], y: usize, out: &mut [u16])
     ensures { λ _. ⌜ now (out .exit) ≡ rowDrawn (now (block .entry)) y (now (out .entry)) ⌝ }
 {
     picture::row(
-        parts::palettes(block),
-        parts::preset(block),
-        parts::in_force(block),
-        parts::attributes(block),
-        parts::shown(block),
-        parts::mode(block),
-        parts::tiles(block),
-        parts::map(block),
-        parts::borders(block),
+        of_block::palettes(block),
+        of_block::preset(block),
+        of_block::in_force(block),
+        of_block::attributes(block),
+        of_block::shown(block),
+        of_block::mode(block),
+        of_block::tiles(block),
+        of_block::map(block),
+        of_block::borders(block),
         y,
         out,
     );
@@ -89,15 +89,15 @@ pub fn draw_picture(block: &[u8], out: &mut [u16])
     ensures { λ _. ⌜ now (out .exit) ≡ pictureDrawn (now (block .entry)) (now (out .entry)) ⌝ }
 {
     picture::picture(
-        parts::palettes(block),
-        parts::preset(block),
-        parts::in_force(block),
-        parts::attributes(block),
-        parts::shown(block),
-        parts::mode(block),
-        parts::tiles(block),
-        parts::map(block),
-        parts::borders(block),
+        of_block::palettes(block),
+        of_block::preset(block),
+        of_block::in_force(block),
+        of_block::attributes(block),
+        of_block::shown(block),
+        of_block::mode(block),
+        of_block::tiles(block),
+        of_block::map(block),
+        of_block::borders(block),
         out,
     );
 }

@@ -13,7 +13,7 @@ use colour::BorderMapEntry;
 use colour::Rgb555;
 
 pub mod drawn;
-mod parts;
+mod of_block;
 
 // A refusal by its number, or a number that was asked for.
 pub enum Number {
@@ -41,7 +41,7 @@ pub enum Border {
 pub fn refusal(block: &[u8]) -> u8
     ensures { λ r. ⌜ r ≡ refusalOf (now (block .entry)) ⌝ }
 {
-    if block.len() != layout::BLOCK {
+    if block.len() != parts::BLOCK {
         return 1;
     }
     if valid::valid(block) { 0 } else { 2 }
@@ -54,7 +54,7 @@ pub fn mask_mode(block: &[u8]) -> Number
     if no != 0 {
         return Number::Refused(no);
     }
-    Number::Is(bits::wide(parts::mode(block)))
+    Number::Is(bits::wide(of_block::mode(block)))
 }
 
 // The colour of everything that nothing covers.

@@ -17,4 +17,5 @@ suites! {
     picture,
     views,
     unit,
+    stored,
 }

@@ -5,10 +5,11 @@ use native.Mathlib.Nat.{add-zero, zero-add}
 use native.Mathlib.Omega.{arith}
 use borrow.Author.Needs.{needs}
 use lib.ListN.{length}
+use Rattle.parts.specs.Parts.{mapBytes}
 use Rattle.bits.proofs.Painting.{painted-count, painted-none, painted-turn, painted-all, painted-length}
 use Rattle.bits.specs.Pair.{packed}
 use Rattle.bits.specs.Paint.{Painted}
-use Rattle.attribute_map.specs.Map.{mapBytes, fourAt, pack}
+use Rattle.attribute_map.specs.Map.{fourAt, pack}
 use Rattle.attribute_map.proofs.pack.Statement.{statement}
 use Rattle.attribute_map.proofs.pack.Tie as tie
 

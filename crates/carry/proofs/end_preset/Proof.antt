@@ -5,6 +5,7 @@ use lib.Dec.{lit≤}
 use Prim.Native.Nat.{_+_}
 use native.Mathlib.Omega.{arith}
 use lib.ListN.{set, length-set}
+use Rattle.parts.specs.Parts.{presetOnAt, presetAt, presetBytes}
 use Rattle.carry.proofs.Carried.{fits, cleared, cleared-long}
 use borrow.Author.Needs.{needs}
 use Rattle.carry.proofs.end_preset.Statement.{statement}
@@ -28,13 +29,13 @@ clear-requires c κs = search needs
 returns : tie.Need-returns
 returns c =
     let start = c .before .before .before .before .before in
-    cleared 144 8 (set (now (start .args .block)) 9 0) _ (fits (now (start .args .block)) (start .pre) 9 0 (144 + 8) (lit≤ tt)) (c .before .before .clear .ensures)
+    cleared presetAt presetBytes (set (now (start .args .block)) presetOnAt 0) _ (fits (now (start .args .block)) (start .pre) presetOnAt 0 (presetAt + presetBytes) (lit≤ tt)) (c .before .before .clear .ensures)
 
 same-length : tie.Need-same-length
 same-length c =
     let start = c .before .before .before .before .before in
-    cleared-long 144 8 (set (now (start .args .block)) 9 0) _ (fits (now (start .args .block)) (start .pre) 9 0 (144 + 8) (lit≤ tt)) (c .before .before .clear .ensures)
-    ∙ length-set (now (start .args .block)) 9 0
+    cleared-long presetAt presetBytes (set (now (start .args .block)) presetOnAt 0) _ (fits (now (start .args .block)) (start .pre) presetOnAt 0 (presetAt + presetBytes) (lit≤ tt)) (c .before .before .clear .ensures)
+    ∙ length-set (now (start .args .block)) presetOnAt 0
 
 pub end-preset-spec : {M : Type 1} → statement M
 end-preset-spec = tie.close (tie.spec slice-write-block sub-clear part-clear-start part-clear-end clear-requires same-length returns)

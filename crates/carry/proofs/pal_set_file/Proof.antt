@@ -1,6 +1,7 @@
 -- The map is copied out, changed, and put back.
 use Prim.Native.Nat.{ℕ}
 use lib.ListN.{length-replicate}
+use Rattle.parts.specs.Parts.{mapBytes}
 use Rattle.commands.specs.Files.{palSetMap}
 use Rattle.carry.proofs.Carried.{file-put}
 use Rattle.carry.proofs.Chain.{pal-long}
@@ -51,7 +52,7 @@ returns : tie.Need-returns
 returns c =
     let start = c .before .before .before .before .before .before .before .before .before .before .before .before .before .before .before .before in
     let flags = start .args .flags in
-    file-put _ (start .pre) (palSetMap flags) (pal-long flags) _ _ _ _ (length-replicate {A = ℕ} 90 0) (c .before .before .before .before .before .before .before .before .before .before .before .put .ensures) (c .before .before .before .before .before .before .pal-set-map .ensures) (c .before .before .put2 .ensures)
+    file-put _ (start .pre) (palSetMap flags) (pal-long flags) _ _ _ _ (length-replicate {A = ℕ} mapBytes 0) (c .before .before .before .before .before .before .before .before .before .before .before .put .ensures) (c .before .before .before .before .before .before .pal-set-map .ensures) (c .before .before .put2 .ensures)
 
 pub pal-set-file-spec : {M : Type 1} → statement M
 pal-set-file-spec = tie.close (tie.spec slice-aggregate-put sub-put part-put-start part-put-end put-requires slice-aggregate-pal-set-map sub-pal-set-map part-pal-set-map-start part-pal-set-map-end pal-set-map-requires slice-aggregate-put-2 put-requires-2 same-length returns)

@@ -6,6 +6,7 @@ use Prim.Native.Nat.{ℕ, _≤_, _-_, _*_}
 use native.Mathlib.Omega.{arith}
 use denote.Ref.{now}
 use lib.ListN.{drop-of-length-le, length, drop}
+use Rattle.parts.specs.Parts.{systemBytes}
 use Rattle.bits.proofs.Overs.{length-over}
 use Rattle.bits.specs.Over.{over}
 use Rattle.layout.specs.Fresh.{times, wordBytes}
@@ -17,7 +18,7 @@ abbrev palette : List ℕ
 palette = wordBytes (0x7FFF ∷ 0x56B5 ∷ 0x294A ∷ 0x0000 ∷ [])
 
 abbrev Inv-loop : tie.InvT-loop
-Inv-loop system₀ i₀ system i = (i ≤ 512) × ((length system ≡ 4096) × (system ≡ times i palette ++ drop (8 * i) system₀))
+Inv-loop system₀ i₀ system i = (i ≤ 512) × ((length system ≡ systemBytes) × (system ≡ times i palette ++ drop (8 * i) system₀))
 
 abbrev μ-loop : tie.MeasureT-loop
 μ-loop system₀ i₀ system i = 512 - i
@@ -52,7 +53,7 @@ same-length c = c .before .loop .inv .1 .0 ∙ sym (c .before .before .before .p
 
 returns : tie.Need-returns Inv-loop μ-loop
 returns c = let e : c .before .loop .i ≡ 512 = omega arith in
-    let h : length (now (c .before .before .before .args .system)) ≤ 4096 = omega arith in
+    let h : length (now (c .before .before .before .args .system)) ≤ systemBytes = omega arith in
     c .before .loop .inv .1 .1 ∙ rw e (ap (λ (l : List ℕ). times 512 palette ++ l) (drop-of-length-le (now (c .before .before .before .args .system)) h) ∙ append-nil _)
 
 pub fill-system-spec : {M : Type 1} → statement M

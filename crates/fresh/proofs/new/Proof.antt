@@ -4,6 +4,7 @@ use mathlib.Core.List.{List, [], _∷_}
 use mathlib.Core.Path.{sym, ap, _∙_}
 use Prim.Native.Nat.{ℕ}
 use lib.ListN.{length, set, replicate}
+use Rattle.parts.specs.Parts.{presetOnAt, presetAt, presetBytes, systemAt, systemBytes}
 use Rattle.bits.specs.Over.{over}
 use Rattle.layout.specs.Fresh.{wordBytes, times}
 use Rattle.fresh.proofs.Made.{new-made, new-long}
@@ -32,8 +33,8 @@ slice-write-block : tie.Need-slice-write-block
 slice-write-block c = search needs
 
 returns : tie.Need-returns
-returns c = (λ t. set (over 274 4096 (c .before .before .fill-system .ensures t) (c .before .before .before .before .before .before .put-palette .ensures t)) 9 1)
-    ∙ ap (λ (l : List ℕ). set (over 274 4096 (times 512 (wordBytes (0x7FFF ∷ 0x56B5 ∷ 0x294A ∷ 0x0000 ∷ []))) (over 144 8 (wordBytes (0x67BF ∷ 0x265B ∷ 0x10B5 ∷ 0x2866 ∷ [])) l)) 9 1)
+returns c = (λ t. set (over systemAt systemBytes (c .before .before .fill-system .ensures t) (c .before .before .before .before .before .before .put-palette .ensures t)) presetOnAt 1)
+    ∙ ap (λ (l : List ℕ). set (over systemAt systemBytes (times 512 (wordBytes (0x7FFF ∷ 0x56B5 ∷ 0x294A ∷ 0x0000 ∷ []))) (over presetAt presetBytes (wordBytes (0x67BF ∷ 0x265B ∷ 0x10B5 ∷ 0x2866 ∷ [])) l)) presetOnAt 1)
     (c .before .before .before .before .before .before .before .before .before .before .clear .ensures ∙ ap (λ (n : ℕ). replicate n 0) (c .before .before .before .before .before .before .before .before .before .before .before .before .before .pre))
     ∙ new-made
 

@@ -4,6 +4,7 @@ use mathlib.Core.List.{List}
 use mathlib.Core.Path.{ap, _∙_}
 use Prim.Native.Nat.{ℕ}
 use lib.ListN.{set}
+use Rattle.parts.specs.Parts.{p15At, bothAt}
 use Rattle.fresh.proofs.Made.{post-boot-made}
 use Rattle.fresh.proofs.post_boot.Statement.{statement}
 use Rattle.fresh.proofs.post_boot.Tie as tie
@@ -21,7 +22,7 @@ same-length : tie.Need-same-length
 same-length c = search needs
 
 returns : tie.Need-returns
-returns c = ap (λ (l : List ℕ). set (set l 3 1) 4 1) (c .before .before .new .ensures) ∙ post-boot-made
+returns c = ap (λ (l : List ℕ). set (set l p15At 1) bothAt 1) (c .before .before .new .ensures) ∙ post-boot-made
 
 pub post-boot-spec : {M : Type 1} → statement M
 post-boot-spec =

@@ -4,9 +4,10 @@ use Prim.Native.Nat.{_+_, _≤_, _-_, _*_}
 use native.Mathlib.Omega.{arith}
 use borrow.Author.Needs.{needs}
 use lib.ListN.{length-take, length-drop, length}
+use Rattle.parts.specs.Parts.{palettesBytes}
 use Rattle.bits.proofs.Overs.{length-over, length-part}
 use Rattle.bits.specs.Over.{part, over}
-use Rattle.palettes.specs.Palettes.{palettesBytes, chosen}
+use Rattle.palettes.specs.Palettes.{chosen}
 use Rattle.palettes.proofs.Choosing.{Chosen, chosen-none, chosen-more, chosen-all}
 use Rattle.palettes.proofs.pal_set.Statement.{statement}
 use Rattle.palettes.proofs.pal_set.Tie as tie

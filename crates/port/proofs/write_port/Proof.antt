@@ -7,6 +7,7 @@ use Prim.Native.Nat.{ℕ, _<_}
 use native.Mathlib.Omega.{arith}
 use denote.Ref.{now}
 use lib.ListN.{length}
+use Rattle.parts.specs.Parts.{blockBytes, storeAt, storeBytes}
 use Rattle.bits.proofs.Overs.{length-part}
 use Rattle.bits.specs.Over.{over}
 use Rattle.receiver.proofs.Sound.{has-place, length-filed}
@@ -30,7 +31,7 @@ start p = p .before .before .before .before .before .before .before
 abbrev block : tie.After-write → List ℕ
 block p = now (start p .args .block)
 
-long : (p : tie.After-write) → length (block p) ≡ 30020
+long : (p : tie.After-write) → length (block p) ≡ blockBytes
 long p = clauses (block p) (start p .pre .0) .long
 
 -- the receiver, and its packet
@@ -78,7 +79,7 @@ part-complete-end c = omega (arith, clauses (now (c .before .before .before .bef
 complete-requires : tie.Need-complete-requires
 complete-requires c κs =
     let p = c .before .before .before .before in
-    (fits p, (length-part 32 112 (block p) (omega (arith, long p)), start p .pre .1))
+    (fits p, (length-part storeAt storeBytes (block p) (omega (arith, long p)), start p .pre .1))
 
 save-receiver-requires : tie.Need-save-receiver-requires
 save-receiver-requires c κs =
@@ -118,14 +119,14 @@ returns c =
     let packet : words lo hi ≡ load b .port .rx .packet = ap (λ (r : Rx). r .packet) (rx p) in
     let index : i ≡ indexed (load b .game .index) (load b .game .pads) (load b .port .p15) v =
     c .before .before .before .before .before .before .before .before .before .before .before .before .before .before .before .before .before .before .index-after .ensures ∙ (λ t. indexed (lines p t .index) (load b .game .pads) (lines p t .p15) v) in
-    let store : length (load b .port .store) ≡ 112 = length-part 32 112 b (omega (arith, long p)) in
+    let store : length (load b .port .store) ≡ storeBytes = length-part storeAt storeBytes b (omega (arith, long p)) in
     let a = answer-is b ok v w lo hi i (step p) packet index in (
       done .0 ∙ packets-answered (w .done) _ (fits p) (length-filed (w .done) (words lo hi) (load b .port .store) (fits p) store) ∙ ap packetsIn a,
       (
         c .before .before .save-lines .ensures
             ∙ (λ t.
             putLines (record { p15 = c .before .before .before .before .p15-high .ensures t; both = c .before .before .before .both-high .ensures t; index = i })
-            ((c .before .before .before .before .before .before .before .before .save-receiver .ensures ∙ ap (λ (l : List ℕ). putReceiver (rxOf (w .next)) (over 32 112 l b)) (done .1 .0)) t))
+            ((c .before .before .before .before .before .before .before .before .save-receiver .ensures ∙ ap (λ (l : List ℕ). putReceiver (rxOf (w .next)) (over storeAt storeBytes l b)) (done .1 .0)) t))
             ∙ stepped-made b ok v w lo hi i (step p) packet index,
         done .1 .1 ∙ ap (λ (o : Option (List ℕ)). handed o (now (start p .args .command))) a,
       ),

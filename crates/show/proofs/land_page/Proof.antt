@@ -1,6 +1,7 @@
 -- The part that comes back is the one that changes.
 use mathlib.Core.Path.{_∙_}
 use native.Mathlib.Omega.{arith}
+use Rattle.parts.specs.Parts.{borderMapAt, borderBytes}
 use Rattle.bits.proofs.Overs.{length-part}
 use Rattle.show.proofs.Landings.{palettes-landed, files-landed, border-landed}
 use borrow.Author.Needs.{needs}
@@ -58,7 +59,7 @@ part-land-map-end c = search needs
 land-map-requires : tie.Need-land-map-requires
 land-map-requires c κs =
     let start = c .before .before .before .before .before in
-    (length-part 28132 1888 (start .args .block .now) (omega (arith, start .pre .0 .long)), start .pre .1)
+    (length-part borderMapAt borderBytes (start .args .block .now) (omega (arith, start .pre .0 .long)), start .pre .1)
 
 same-length : tie.Need-same-length
 same-length c = search needs

@@ -7,6 +7,7 @@ use native.Mathlib.Omega.{arith}
 use denote.Ref.{now}
 use lib.Dec.{lit<}
 use lib.ListN.{getD}
+use Rattle.parts.specs.Parts.{storeAt, storeBytes}
 use Rattle.bits.proofs.Overs.{getD-part}
 use Rattle.bits.specs.Zero.{zeros}
 use Rattle.layout.specs.Block.{load}
@@ -42,7 +43,7 @@ packet-count-requires c κs = search needs
 
 returns-4 : tie.Need-returns-4
 unfolding later load
-returns-4 c = rw (le-leb _ _ (c .before .before .before .before .before .if1 .left), lt-ltb _ _ (c .before .before .before .before .if2 .left), le-leb _ _ (c .before .before .before .if3 .left), ap countOf (getD-part 32 112 (now (c .before .before .before .before .before .before .before .before .before .args .block)) 0 (lit< tt)) ∙ sym (c .before .packet-count .ensures), ne-eqb _ _ (c .if4 .taken))
+returns-4 c = rw (le-leb _ _ (c .before .before .before .before .before .if1 .left), lt-ltb _ _ (c .before .before .before .before .if2 .left), le-leb _ _ (c .before .before .before .if3 .left), ap countOf (getD-part storeAt storeBytes (now (c .before .before .before .before .before .before .before .before .before .args .block)) 0 (lit< tt)) ∙ sym (c .before .packet-count .ensures), ne-eqb _ _ (c .if4 .taken))
 
 wide-requires : tie.Need-wide-requires
 wide-requires c κs = search needs
@@ -67,8 +68,8 @@ all-zero-requires c κs = search needs
 
 returns-5 : tie.Need-returns-5
 unfolding later load
-returns-5 c = rw (le-leb _ _ (c .before .before .before .before .before .before .before .before .if1 .left), lt-ltb _ _ (c .before .before .before .before .before .before .before .if2 .left), le-leb _ _ (c .before .before .before .before .before .before .if3 .left), ap countOf (getD-part 32 112 (now (c .before .before .before .before .before .before .before .before .before .before .before .before .args .block)) 0 (lit< tt)) ∙ sym (c .before .before .before .before .packet-count .ensures), eq-eqb _ _ (c .before .before .before .if4 .left))
-    (c .all-zero .ensures ∙ rw (c .before .before .wide .ensures .0) (ap zeros (drop-part (now (c .before .before .before .before .before .before .before .before .before .before .before .before .args .block)) 32 112 (16 * getD (now (c .before .before .before .before .before .before .before .before .before .before .before .before .args .block)) 7 0) (omega arith) (omega arith))))
+returns-5 c = rw (le-leb _ _ (c .before .before .before .before .before .before .before .before .if1 .left), lt-ltb _ _ (c .before .before .before .before .before .before .before .if2 .left), le-leb _ _ (c .before .before .before .before .before .before .if3 .left), ap countOf (getD-part storeAt storeBytes (now (c .before .before .before .before .before .before .before .before .before .before .before .before .args .block)) 0 (lit< tt)) ∙ sym (c .before .before .before .before .packet-count .ensures), eq-eqb _ _ (c .before .before .before .if4 .left))
+    (c .all-zero .ensures ∙ rw (c .before .before .wide .ensures .0) (ap zeros (drop-part (now (c .before .before .before .before .before .before .before .before .before .before .before .before .args .block)) storeAt storeBytes (16 * getD (now (c .before .before .before .before .before .before .before .before .before .before .before .before .args .block)) 7 0) (omega arith) (omega arith))))
 
 pub some-in-spec : {M : Type 1} → statement M
 some-in-spec =

@@ -4,6 +4,7 @@ use borrow.Author.Tests.{lt-leb}
 use native.Mathlib.Omega.{arith}
 use denote.Ref.{now}
 use lib.ListN.{getD}
+use Rattle.parts.specs.Parts.{stageAt}
 use Rattle.layout.specs.Block.{load, stageOf}
 use Rattle.layout.specs.Valid.{v3}
 use Rattle.receiver.specs.Valid as receiver
@@ -37,7 +38,7 @@ returns-3 c = rw (c .before .if3 .taken, part-bytes (now (c .before .before .bef
 
 returns-4 : tie.Need-returns-4
 unfolding v3
-returns-4 c = rw (lt-leb (getD (now (c .before .before .before .before .before .args .block)) 5 0) 2 (omega arith))
+returns-4 c = rw (lt-leb (getD (now (c .before .before .before .before .before .args .block)) stageAt 0) 2 (omega arith))
 
 pub v3-spec : {M : Type 1} → statement M
 v3-spec =

@@ -5,6 +5,7 @@ use mathlib.Core.Path.{sym}
 use native.Mathlib.Omega.{arith}
 use denote.Ref.{now}
 use lib.ListN.{getD}
+use Rattle.parts.specs.Parts.{countdownAt}
 use Rattle.layout.specs.Valid.{v4}
 use Rattle.valid.proofs.Bytes.{or-false}
 use Rattle.valid.proofs.v4.Statement.{statement}
@@ -18,15 +19,15 @@ shared-slice-read-kind c = search needs
 
 returns : tie.Need-returns
 unfolding v4
-returns c = rw (eq-eqb _ _ (c .if1 .taken), lt-leb 1 (getD (now (c .before .before .before .args .block)) 10 0) (omega arith)) (sym (or-false _))
+returns c = rw (eq-eqb _ _ (c .if1 .taken), lt-leb 1 (getD (now (c .before .before .before .args .block)) countdownAt 0) (omega arith)) (sym (or-false _))
 
 returns-2 : tie.Need-returns-2
 unfolding v4
-returns-2 c = rw (ne-eqb _ _ (c .before .if1 .left), lt-leb _ _ (c .if2 .taken), le-leb 1 (getD (now (c .before .before .before .before .args .block)) 10 0) (omega arith))
+returns-2 c = rw (ne-eqb _ _ (c .before .if1 .left), lt-leb _ _ (c .if2 .taken), le-leb 1 (getD (now (c .before .before .before .before .args .block)) countdownAt 0) (omega arith))
 
 returns-3 : tie.Need-returns-3
 unfolding v4
-returns-3 c = rw (ne-eqb _ _ (c .before .if1 .left), le-leb _ _ (c .if2 .left), le-leb 1 (getD (now (c .before .before .before .before .args .block)) 10 0) (omega arith))
+returns-3 c = rw (ne-eqb _ _ (c .before .if1 .left), le-leb _ _ (c .if2 .left), le-leb 1 (getD (now (c .before .before .before .before .args .block)) countdownAt 0) (omega arith))
 
 pub v4-spec : {M : Type 1} → statement M
 v4-spec =

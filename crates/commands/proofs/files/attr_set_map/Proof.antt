@@ -6,6 +6,7 @@ use borrow.Author.Tests.{lt-ltb, le-ltb}
 use borrow.Author.Needs.{needs}
 use lib.ListN.{length}
 use lib.Bits.{and-mask}
+use Rattle.parts.specs.Parts.{mapBytes}
 use Rattle.bits.specs.Over.{part, over}
 use Rattle.bits.proofs.Overs.{length-part}
 use Rattle.commands.specs.Files.{fileCount, fileOf, attrSetMap}
@@ -43,11 +44,11 @@ returns c =
     let put = c .before .before in
     let n = put .before .before .before .before .wide .result in
     let s = put .before .before .before .before .before .before .before .args in
-    let k : 90 * n + 90 - 90 * n ≡ 90 = omega arith in
-    let l : length (part (90 * n) 90 (s .files .now)) ≡ 90 = length-part (90 * n) 90 (s .files .now) (omega arith) in
+    let k : mapBytes * n + mapBytes - mapBytes * n ≡ mapBytes = omega arith in
+    let l : length (part (mapBytes * n) mapBytes (s .files .now)) ≡ mapBytes = length-part (mapBytes * n) mapBytes (s .files .now) (omega arith) in
     let e : n ≡ s .flags % 64 = put .before .before .before .before .wide .ensures .0 ∙ and-mask (s .flags) 6 in
     let lt : s .flags % 64 < fileCount = omega arith in
-    put .put .ensures ∙ rw (k, l) (over-all 90 (part (90 * n) 90 (s .files .now)) (s .map .now) (search needs) ∙ rw (e, lt-ltb _ _ lt))
+    put .put .ensures ∙ rw (k, l) (over-all mapBytes (part (mapBytes * n) mapBytes (s .files .now)) (s .map .now) (search needs) ∙ rw (e, lt-ltb _ _ lt))
 
 returns-2 : tie.Need-returns-2
 unfolding attrSetMap fileOf

@@ -1,6 +1,7 @@
 -- Each part of the block has its length (proofs/Drawn).
 use native.Mathlib.Omega.{arith}
 use borrow.Author.Needs.{needs}
+use Rattle.parts.specs.Parts.{blockBytes, presetAt, presetBytes, palettesAt, palettesBytes, borderPalettesAt, borderPalettesBytes}
 use Rattle.probe.proofs.Drawn.{end-within, part-long, all-lent}
 use Rattle.probe.proofs.drawing.probe_picture.Statement.{statement}
 use Rattle.probe.proofs.drawing.probe_picture.Tie as tie
@@ -75,7 +76,7 @@ part-picture-start-5 : tie.Need-part-picture-start-5
 part-picture-start-5 c = search needs
 
 part-picture-end-5 : tie.Need-part-picture-end-5
-part-picture-end-5 c = end-within (c .before .before .before .before .before .before .before .before .before .before .before .args .block .now) 29924 (c .before .before .before .before .before .before .before .before .before .before .before .pre .0) (omega arith)
+part-picture-end-5 c = end-within (c .before .before .before .before .before .before .before .before .before .before .before .args .block .now) borderPalettesAt (c .before .before .before .before .before .before .before .before .before .before .before .pre .0) (omega arith)
 
 sub-picture-6 : tie.Need-sub-picture-6
 sub-picture-6 c = search needs
@@ -84,13 +85,13 @@ part-picture-start-6 : tie.Need-part-picture-start-6
 part-picture-start-6 c = search needs
 
 part-picture-end-6 : tie.Need-part-picture-end-6
-part-picture-end-6 c = end-within (c .before .before .before .before .before .before .before .before .before .before .before .before .args .block .now) 30020 (c .before .before .before .before .before .before .before .before .before .before .before .before .pre .0) (omega arith)
+part-picture-end-6 c = end-within (c .before .before .before .before .before .before .before .before .before .before .before .before .args .block .now) blockBytes (c .before .before .before .before .before .before .before .before .before .before .before .before .pre .0) (omega arith)
 
 picture-requires : tie.Need-picture-requires
 picture-requires c κs =
     let h = c .before .before .before .before .before .before .before .before .before .before .before .before .before .before .pre .0 in
     let b = c .before .before .before .before .before .before .before .before .before .before .before .before .before .before .args .block .now in
-    (all-lent b _ _ h (c .before .before .before .before .before .before .before .displayed-screen .ensures), ((part-long b 152 32 h (omega arith), part-long b 144 8 h (omega arith), part-long b 29924 96 h (omega arith)), c .before .before .before .before .before .before .before .before .before .before .before .before .before .before .pre .1))
+    (all-lent b _ _ h (c .before .before .before .before .before .before .before .displayed-screen .ensures), ((part-long b palettesAt palettesBytes h (omega arith), part-long b presetAt presetBytes h (omega arith), part-long b borderPalettesAt borderPalettesBytes h (omega arith)), c .before .before .before .before .before .before .before .before .before .before .before .before .before .before .pre .1))
 
 same-length : tie.Need-same-length
 same-length c = search needs

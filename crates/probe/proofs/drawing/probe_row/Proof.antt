@@ -1,6 +1,7 @@
 -- Each part of the block has its length (proofs/Drawn).
 use native.Mathlib.Omega.{arith}
 use borrow.Author.Needs.{needs}
+use Rattle.parts.specs.Parts.{blockBytes, presetAt, presetBytes, palettesAt, palettesBytes, borderPalettesAt, borderPalettesBytes}
 use Rattle.probe.proofs.Drawn.{end-within, part-long, all-lent}
 use Rattle.probe.proofs.drawing.probe_row.Statement.{statement}
 use Rattle.probe.proofs.drawing.probe_row.Tie as tie
@@ -75,7 +76,7 @@ part-row-start-5 : tie.Need-part-row-start-5
 part-row-start-5 c = search needs
 
 part-row-end-5 : tie.Need-part-row-end-5
-part-row-end-5 c = end-within (c .before .before .before .before .before .before .before .before .before .before .before .args .block .now) 29924 (c .before .before .before .before .before .before .before .before .before .before .before .pre .0) (omega arith)
+part-row-end-5 c = end-within (c .before .before .before .before .before .before .before .before .before .before .before .args .block .now) borderPalettesAt (c .before .before .before .before .before .before .before .before .before .before .before .pre .0) (omega arith)
 
 sub-row-6 : tie.Need-sub-row-6
 sub-row-6 c = search needs
@@ -84,13 +85,13 @@ part-row-start-6 : tie.Need-part-row-start-6
 part-row-start-6 c = search needs
 
 part-row-end-6 : tie.Need-part-row-end-6
-part-row-end-6 c = end-within (c .before .before .before .before .before .before .before .before .before .before .before .before .args .block .now) 30020 (c .before .before .before .before .before .before .before .before .before .before .before .before .pre .0) (omega arith)
+part-row-end-6 c = end-within (c .before .before .before .before .before .before .before .before .before .before .before .before .args .block .now) blockBytes (c .before .before .before .before .before .before .before .before .before .before .before .before .pre .0) (omega arith)
 
 row-requires : tie.Need-row-requires
 row-requires c κs =
     let h = c .before .before .before .before .before .before .before .before .before .before .before .before .before .before .pre .0 in
     let b = c .before .before .before .before .before .before .before .before .before .before .before .before .before .before .args .block .now in
-    (all-lent b _ _ h (c .before .before .before .before .before .before .before .displayed-screen .ensures), ((part-long b 152 32 h (omega arith), part-long b 144 8 h (omega arith), part-long b 29924 96 h (omega arith)), c .before .before .before .before .before .before .before .before .before .before .before .before .before .before .pre .1))
+    (all-lent b _ _ h (c .before .before .before .before .before .before .before .displayed-screen .ensures), ((part-long b palettesAt palettesBytes h (omega arith), part-long b presetAt presetBytes h (omega arith), part-long b borderPalettesAt borderPalettesBytes h (omega arith)), c .before .before .before .before .before .before .before .before .before .before .before .before .before .before .pre .1))
 
 same-length : tie.Need-same-length
 same-length c = search needs

@@ -5,6 +5,7 @@ use native.Mathlib.Omega.{arith}
 use lib.ListN.{length}
 use Rattle.bits.specs.Paint.{Painted}
 use Rattle.bits.proofs.Painting.{painted-none, painted-length, painted-count}
+use Rattle.transfer.specs.Page.{pageBytes}
 use Rattle.transfer.specs.Passes.{tilesByte}
 use Rattle.transfer.proofs.Pages.{tiles-turn}
 use Rattle.transfer.proofs.page.tiles.Statement.{statement}
@@ -38,7 +39,7 @@ same-length : tie.Need-same-length Inv-loop μ-loop
 same-length c = c .before .loop .inv .1
 
 returns : tie.Need-returns Inv-loop μ-loop
-returns c = painted-count (c .before .loop .inv .2) 4096 (omega arith)
+returns c = painted-count (c .before .loop .inv .2) pageBytes (omega arith)
 
 pub tiles-spec : {M : Type 1} → statement M
 tiles-spec =

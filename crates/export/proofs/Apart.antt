@@ -1,0 +1,185 @@
+-- Different answers give different numbers: what crosses to C tells the answer whole. A refusal's number is from 1 to 7, so it is in the
+-- low byte, where a value leaves 0 and "none" is 128.
+use Prim.Native.Nat.{ℕ, zero, suc, _≤_, _<_}
+use native.Mathlib.Omega.{arith}
+use mathlib.Core.Path.{_≡_, refl, sym, ap, _∙_}
+use mathlib.Core.Bool.{Bool, true, false, _&&_, cond}
+use mathlib.Core.List.{List}
+use mathlib.Core.Logic.{_⊎_, inl, inr, ⊎-elim}
+use mathlib.Core.Option.{Option, none, some}
+use lib.Dec.{eqb, ltb, leb, lit<, lit≤}
+use lib.ListN.{length}
+use Rattle.bits.proofs.Tests.{either}
+use Rattle.colour.specs.declared.Rgb8.{Rgb8}
+use Rattle.pulses.specs.Answer.{Answer, refused, given}
+use Rattle.pulses.specs.Bytes.{malformed}
+use Rattle.pulses.specs.Encode.{encoding, short}
+use Rattle.pulses.specs.Verdict.{judged}
+use Rattle.transfer.specs.Pending.{numberOf, pendingOf}
+use Rattle.transfer.specs.declared.pending.Transfer.{Transfer}
+use Rattle.transfer.specs.declared.pending.Pending.the-variants as pending
+use Rattle.transfer.specs.declared.pending.Landed.{Landed}
+use Rattle.transfer.specs.declared.pending.Landed.the-variants.{Nothing, Page}
+use Rattle.transfer.proofs.Pendings.{kind-read-back}
+use Rattle.layout.specs.Layout.{blockBytes, storeBytes, captureBytes}
+use Rattle.layout.specs.Valid.{valid}
+use Rattle.view.specs.Refusal.{refusing}
+use Rattle.view.specs.Drawn.{modeOf, backdropAnswer, shadeAnswer, entryAnswer, borderAnswer, rowAnswer, pictureAnswer}
+use Rattle.unit.specs.Calls.{writeAnswer, screenAnswer}
+use Rattle.export.specs.Coded.{coded, value, optional, landed, truth}
+use Rattle.export.specs.Parts.{rgbNumber}
+
+-- ---- a code of values that stays clear of the refusals
+
+abbrev Once : {A : Type 0} → (A → ℕ) → Type 0
+Once {A} code = (x y : A) → code x ≡ code y → x ≡ y
+
+abbrev Clear : {A : Type 0} → (A → ℕ) → Type 0
+Clear {A} code = (x : A) → (code x ≡ 0) ⊎ (128 ≤ code x)
+
+unfoldable pub Numbered : {A : Type 0} → Answer A → Type 0
+Numbered (refused n) = (1 ≤ n) × (n ≤ 7)
+Numbered (given a) = Unit {0}
+
+pub coded-once : {A : Type 0} (code : A → ℕ) → Once code → Clear code → (a b : Answer A) → Numbered a → Numbered b → coded code a ≡ coded code b → a ≡ b
+unfolding coded Numbered
+coded-once code once clear (refused m) (refused n) p q e = ap refused e
+coded-once code once clear (refused m) (given y) p q e = absurd (⊎-elim (λ z. omega arith) (λ z. omega arith) (clear y))
+coded-once code once clear (given x) (refused n) p q e = absurd (⊎-elim (λ z. omega arith) (λ z. omega arith) (clear x))
+coded-once code once clear (given x) (given y) p q e = ap given (once x y e)
+
+-- ---- each of the codes is one
+
+value-once : Once value
+value-once x y e = omega arith
+
+value-clear : Clear value
+value-clear zero = inl refl
+value-clear (suc x) = inr (omega arith)
+
+pub optional-once : Once optional
+unfolding optional
+optional-once none none e = refl
+optional-once none (some y) e = absurd (omega arith)
+optional-once (some x) none e = absurd (omega arith)
+optional-once (some x) (some y) e = ap some (value-once x y e)
+
+optional-clear : Clear optional
+unfolding optional
+optional-clear none = inr (lit≤ tt)
+optional-clear (some x) = value-clear x
+
+kind-once : (t u : Transfer) → numberOf t ≡ numberOf u → t ≡ u
+kind-once t u e =
+    let b : pending.In 1 t ≡ pending.In 1 u = sym (kind-read-back 1 t (lit< tt)) ∙ (ap (pendingOf 1) e ∙ kind-read-back 1 u (lit< tt)) in
+    cc
+
+landed-once : Once landed
+unfolding landed
+landed-once Nothing Nothing e = refl
+landed-once Nothing (Page u) e = absurd (omega arith)
+landed-once (Page t) Nothing e = absurd (omega arith)
+landed-once (Page t) (Page u) e = ap Page (kind-once t u (value-once (numberOf t) (numberOf u) e))
+
+landed-clear : Clear landed
+unfolding landed
+landed-clear Nothing = inr (lit≤ tt)
+landed-clear (Page t) = value-clear (numberOf t)
+
+truth-once : Once truth
+unfolding truth
+truth-once true true e = refl
+truth-once true false e = absurd (omega arith)
+truth-once false true e = absurd (omega arith)
+truth-once false false e = refl
+
+truth-clear : Clear truth
+unfolding truth
+truth-clear b = value-clear (cond b 1 0)
+
+-- ---- the answers of the calls, by what they give
+
+pub optional-apart : (a b : Answer (Option ℕ)) → Numbered a → Numbered b → coded optional a ≡ coded optional b → a ≡ b
+optional-apart = coded-once optional optional-once optional-clear
+
+pub value-apart : (a b : Answer ℕ) → Numbered a → Numbered b → coded value a ≡ coded value b → a ≡ b
+value-apart = coded-once value value-once value-clear
+
+pub landed-apart : (a b : Answer Landed) → Numbered a → Numbered b → coded landed a ≡ coded landed b → a ≡ b
+landed-apart = coded-once landed landed-once landed-clear
+
+pub truth-apart : (a b : Answer Bool) → Numbered a → Numbered b → coded truth a ≡ coded truth b → a ≡ b
+truth-apart = coded-once truth truth-once truth-clear
+
+-- a colour of three bytes
+pub rgb-apart : (c d : Rgb8) → c .g < 256 → c .b < 256 → d .g < 256 → d .b < 256 → value (rgbNumber c) ≡ value (rgbNumber d) → c ≡ d
+rgb-apart c d p q s t e =
+    let x : c .r ≡ d .r = omega arith in
+    let y : c .g ≡ d .g = omega arith in
+    let z : c .b ≡ d .b = omega arith in
+    λ i. record { r = x i; g = y i; b = z i }
+
+-- ---- and every refusal that a call gives has such a number
+
+refused-numbered : (A : Type 0) (n : ℕ) → 1 ≤ n → n ≤ 7 → Numbered {A = A} (refused n)
+unfolding Numbered
+refused-numbered A n p q = (p, q)
+
+test-numbered : {A : Type 0} (t : Bool) (a : Answer A) (n : ℕ) → Numbered a → 1 ≤ n → n ≤ 7 → Numbered (cond t a (refused n))
+test-numbered {A} t a n f p q = either Numbered t (λ _. f) (λ _. refused-numbered A n p q)
+
+given-numbered : {A : Type 0} (a : A) → Numbered (given a)
+unfolding Numbered
+given-numbered a = tt
+
+refusing-numbered : {A : Type 0} (b : List ℕ) (a : Answer A) → Numbered a → Numbered (refusing b a)
+unfolding refusing
+refusing-numbered b a f =
+    test-numbered (eqb (length b) blockBytes) _ 1 (test-numbered (valid b) a 2 f (lit≤ tt) (lit≤ tt)) (lit≤ tt) (lit≤ tt)
+
+pub write-numbered : (b : List ℕ) (v : ℕ) (command : List ℕ) → Numbered (writeAnswer b v command)
+unfolding writeAnswer
+write-numbered b v command = refusing-numbered b _ (test-numbered (leb storeBytes (length command)) _ 6 (given-numbered _) (lit≤ tt) (lit≤ tt))
+
+pub screen-numbered : (b x : List ℕ) → Numbered (screenAnswer b x)
+unfolding screenAnswer
+screen-numbered b x = refusing-numbered b _ (test-numbered (eqb (length x) captureBytes) _ 3 (given-numbered _) (lit≤ tt) (lit≤ tt))
+
+pub mode-numbered : (b : List ℕ) → Numbered (modeOf b)
+unfolding modeOf
+mode-numbered b = refusing-numbered b _ (given-numbered _)
+
+pub backdrop-numbered : (b : List ℕ) → Numbered (backdropAnswer b)
+unfolding backdropAnswer
+backdrop-numbered b = refusing-numbered b _ (given-numbered _)
+
+pub shade-numbered : (b : List ℕ) (x y shade : ℕ) → Numbered (shadeAnswer b x y shade)
+unfolding shadeAnswer
+shade-numbered b x y shade = refusing-numbered b _ (test-numbered (ltb x 160 && (ltb y 144 && leb shade 3)) _ 4 (given-numbered _) (lit≤ tt) (lit≤ tt))
+
+pub entry-numbered : (b : List ℕ) (column row : ℕ) → Numbered (entryAnswer b column row)
+unfolding entryAnswer
+entry-numbered b column row = refusing-numbered b _ (test-numbered (ltb column 32 && ltb row 28) _ 4 (given-numbered _) (lit≤ tt) (lit≤ tt))
+
+pub border-numbered : (b : List ℕ) (x y : ℕ) → Numbered (borderAnswer b x y)
+unfolding borderAnswer
+border-numbered b x y = refusing-numbered b _ (test-numbered (ltb x 256 && ltb y 224) _ 4 (given-numbered _) (lit≤ tt) (lit≤ tt))
+
+pub row-numbered : (b : List ℕ) (y : ℕ) (out : List ℕ) → Numbered (rowAnswer b y out)
+unfolding rowAnswer
+row-numbered b y out =
+    refusing-numbered b _ (test-numbered (ltb y 224) _ 4 (test-numbered (leb 256 (length out)) _ 6 (given-numbered _) (lit≤ tt) (lit≤ tt)) (lit≤ tt) (lit≤ tt))
+
+pub picture-numbered : (b out : List ℕ) → Numbered (pictureAnswer b out)
+unfolding pictureAnswer
+picture-numbered b out = refusing-numbered b _ (test-numbered (leb 57344 (length out)) _ 6 (given-numbered _) (lit≤ tt) (lit≤ tt))
+
+pub encoding-numbered : (c : List ℕ) (room : ℕ) → Numbered (encoding c room)
+unfolding encoding
+encoding-numbered c room =
+    either Numbered (malformed c) (λ _. refused-numbered _ 5 (lit≤ tt) (lit≤ tt))
+    (λ _. either Numbered (short c room) (λ _. refused-numbered _ 6 (lit≤ tt) (lit≤ tt)) (λ _. given-numbered _))
+
+pub verdict-numbered : (c : List ℕ) → Numbered (judged c)
+unfolding judged
+verdict-numbered c = either Numbered (malformed c) (λ _. refused-numbered _ 5 (lit≤ tt) (lit≤ tt)) (λ _. given-numbered _)

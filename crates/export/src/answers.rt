@@ -1,0 +1,114 @@
+// Each enum that a public call answers, as the number that crosses (specs/Coded).
+ghost use mathlib.Core.Path.{_≡_};
+ghost use Prim.Native.Nat.{_<_};
+ghost use mathlib.Core.Option.{some};
+ghost use Rattle.pulses.specs.Answer.{encodedAnswer, verdictAnswer};
+ghost use Rattle.unit.specs.Answers.{writtenTold, shownTold};
+ghost use Rattle.view.specs.Answers.{numberTold, colourTold, entryTold, borderTold};
+ghost use Rattle.export.specs.Coded.{coded, value, optional, landed, truth, Fits};
+use pulses::Conformance;
+use pulses::Encoded;
+use transfer::pending::Landed;
+use unit::Shown;
+use unit::Written;
+use view::Border;
+use view::Colour;
+use view::Entry;
+use view::Number;
+
+pub const NONE: u32 = 128;
+
+// A value stands above the low byte.
+pub fn value(v: u32) -> u32
+    requires { ⌜ v < 16777216 ⌝ }
+    ensures { λ r. ⌜ r ≡ value v ⌝ }
+{
+    256 * v
+}
+
+pub fn of_written(told: Written) -> u32
+    ensures { λ r. ⌜ r ≡ coded optional (writtenTold told) ⌝ }
+{
+    match told {
+        Written::Refused(n) => n as u32,
+        Written::Nothing => NONE,
+        Written::Command(n) => value(n as u32),
+    }
+}
+
+pub fn of_shown(told: Shown) -> u32
+    ensures { λ r. ⌜ r ≡ coded landed (shownTold told) ⌝ }
+{
+    match told {
+        Shown::Refused(n) => n as u32,
+        Shown::Took(l) => of_landed(l),
+    }
+}
+
+fn of_landed(l: Landed) -> u32
+    ensures { λ r. ⌜ r ≡ landed l ⌝ }
+{
+    match l {
+        Landed::Nothing => NONE,
+        Landed::Page(transfer) => value(transfer.number() as u32),
+    }
+}
+
+pub fn of_number(told: Number) -> u32
+    requires { ⌜ Fits (numberTold told) ⌝ }
+    ensures { λ r. ⌜ r ≡ coded value (numberTold told) ⌝ }
+{
+    match told {
+        Number::Refused(n) => n as u32,
+        Number::Is(v) => value(v as u32),
+    }
+}
+
+pub fn of_colour(told: Colour) -> u32
+    ensures { λ r. ⌜ r ≡ coded value (colourTold told) ⌝ }
+{
+    match told {
+        Colour::Refused(n) => n as u32,
+        Colour::Is(c) => value(c.0 as u32),
+    }
+}
+
+pub fn of_entry(told: Entry) -> u32
+    ensures { λ r. ⌜ r ≡ coded value (entryTold told) ⌝ }
+{
+    match told {
+        Entry::Refused(n) => n as u32,
+        Entry::Is(w) => value(w.0 as u32),
+    }
+}
+
+pub fn of_border(told: Border) -> u32
+    ensures { λ r. ⌜ r ≡ coded optional (borderTold told) ⌝ }
+{
+    match told {
+        Border::Refused(n) => n as u32,
+        Border::Transparent => NONE,
+        Border::Opaque(c) => value(c.0 as u32),
+    }
+}
+
+pub fn of_encoded(told: Encoded) -> u32
+    requires { ⌜ Fits (encodedAnswer told) ⌝ }
+    ensures { λ r. ⌜ r ≡ coded value (encodedAnswer told) ⌝ }
+{
+    match told {
+        Encoded::Malformed => 5,
+        Encoded::Short => 6,
+        Encoded::Writes(n) => value(n as u32),
+    }
+}
+
+pub fn of_verdict(told: Conformance) -> u32
+    ensures { λ r. ⌜ r ≡ coded truth (verdictAnswer told) ⌝ }
+{
+    match told {
+        Conformance::Malformed => 5,
+        Conformance::Conforms => value(1),
+        Conformance::Differs => value(0),
+    }
+}

@@ -1,0 +1,87 @@
+// Hexadecimal text: what its digits spell, and bytes spelled out. Document 01, Pulses, verdict, log. The meaning is in specs/Hex.
+ghost use mathlib.Core.Path.{_≡_};
+ghost use mathlib.Core.Bool.{true};
+ghost use mathlib.Core.List.{_∷_, []};
+ghost use Prim.Native.Nat.{_+_, _*_, _≤_, _<_};
+ghost use lib.ListN.{length};
+ghost use Rattle.bits.specs.Over.{over};
+ghost use Rattle.hex.specs.Hex.{nibble, spells, spelled, capital, hexText};
+
+// The value of a digit of either case, or 16. A log's every byte passes here, so its tests are such as become selections: no branch
+// follows the digits.
+pub fn digit(b: u8) -> u8
+    ensures { λ r. ⌜ r ≡ nibble b ⌝ }
+{
+    let number = b ^ 0x30;
+    if number < 10 {
+        return number;
+    }
+    let letter = (b | 0x20) ^ 0x60;
+    if letter == 0 {
+        return 16;
+    }
+    if letter < 7 {
+        return letter + 9;
+    }
+    16
+}
+
+// The digit of a value, in upper case.
+pub fn capital(d: u8) -> u8
+    requires { ⌜ d < 16 ⌝ }
+    ensures { λ r. ⌜ r ≡ capital d ⌝ }
+{
+    if d < 10 { 48 + d } else { 55 + d }
+}
+
+// Whether a text spells bytes: digits alone, an even number of them. All are looked at, with no way out on the way, so that several
+// are taken at once.
+pub fn spells(text: &[u8]) -> bool
+    ensures { λ r. ⌜ r ≡ spells (now (text .entry)) ⌝ }
+{
+    if text.len() % 2 == 1 {
+        return false;
+    }
+    let mut all: u8 = 0;
+    let mut i: usize = 0;
+    while i < text.len() {
+        all |= digit(text[i]);
+        i += 1;
+    }
+    all < 16
+}
+
+// The bytes that a text spells, at the front of `bytes`.
+pub fn decode(text: &[u8], bytes: &mut [u8])
+    requires { ⌜ spells (now text) ≡ true ⌝ }
+    requires { ⌜ length (now text) ≤ 2 * length (now bytes) ⌝ }
+    ensures { λ _. ⌜ now (bytes .exit) ≡ over 0 (length (spelled (now (text .entry)))) (spelled (now (text .entry))) (now (bytes .entry)) ⌝ }
+{
+    let n = text.len() / 2;
+    let mut i: usize = 0;
+    while i < n {
+        bytes[i] = digit(text[2 * i]) * 16 + digit(text[2 * i + 1]);
+        i += 1;
+    }
+}
+
+// All of src in upper-case digits, from `at` on.
+pub fn spell(src: &[u8], out: &mut [u8], at: usize)
+    requires { ⌜ at + 2 * length (now src) ≤ length (now out) ⌝ }
+    ensures { λ _. ⌜ now (out .exit) ≡ over at (2 * length (now (src .entry))) (hexText (now (src .entry))) (now (out .entry)) ⌝ }
+{
+    let mut i: usize = 0;
+    while i < src.len() {
+        spell_byte(src[i], out, at + 2 * i);
+        i += 1;
+    }
+}
+
+// One byte's two digits.
+pub fn spell_byte(b: u8, out: &mut [u8], at: usize)
+    requires { ⌜ at + 2 ≤ length (now out) ⌝ }
+    ensures { λ _. ⌜ now (out .exit) ≡ over at 2 (hexText (b ∷ [])) (now (out .entry)) ⌝ }
+{
+    out[at] = capital(b >> 4);
+    out[at + 1] = capital(b & 15);
+}

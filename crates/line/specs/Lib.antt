@@ -1,0 +1,4 @@
+pub mod Calls
+pub mod Line
+pub mod Lines
+pub mod Split

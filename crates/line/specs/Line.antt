@@ -1,0 +1,36 @@
+-- What a line of a log means. Document 01, Pulses, verdict, log: "First byte 01: up to 5,760 writes follow. 02: a screen. All else, an
+-- empty line or a 02 line of another length too, is refusal 7."
+use Prim.Native.Nat.{ℕ, _+_, _*_}
+use mathlib.Core.Bool.{cond}
+use mathlib.Core.Option.{Option, none, some}
+use mathlib.Core.List.{List, [], _∷_}
+use lib.Dec.{leb, eqb}
+use lib.ListN.{length}
+use Rattle.hex.specs.Hex.{bytesOf}
+
+-- the bytes of a screen, which are also the most writes of a line; and the digits of the longest line that means something
+abbrev pub screenBytes : ℕ
+screenBytes = 5760
+
+abbrev pub lineDigits : ℕ
+lineDigits = 2 * (1 + screenBytes)
+
+pub data Meaning : Type 0 where
+  writes : List ℕ → Meaning
+  screen : List ℕ → Meaning
+  refused : Meaning
+
+-- what bytes mean, by the first
+unfoldable pub byKind : List ℕ → Meaning
+byKind [] = refused
+byKind (k ∷ d) =
+    cond (eqb k 1) (cond (leb (length d) screenBytes) (writes d) refused)
+    (cond (eqb k 2) (cond (eqb (length d) screenBytes) (screen d) refused) refused)
+
+unfoldable pub byBytes : Option (List ℕ) → Meaning
+byBytes none = refused
+byBytes (some b) = byKind b
+
+-- what a line means
+unfoldable pub meaningOf : List ℕ → Meaning
+meaningOf s = byBytes (bytesOf s)

@@ -1,0 +1,71 @@
+-- The screens that are left grow fewer.
+use mathlib.Core.Path.{_≡_}
+use borrow.Author.Needs.{needs}
+use lib.ListN.{length}
+use Rattle.stored.proofs.screens.show.Statement.{statement}
+use Rattle.stored.proofs.screens.show.Tie as tie
+
+abbrev Inv-loop : tie.InvT-loop
+Inv-loop round first block₀ screen₀ h x₀ left₀ d₀ block screen x left d = (length block ≡ length block₀) × (length screen ≡ length screen₀)
+
+abbrev μ-loop : tie.MeasureT-loop
+μ-loop round first block₀ screen₀ h x₀ left₀ d₀ block screen x left d = left
+
+stream-requires : tie.Need-stream-requires Inv-loop μ-loop
+stream-requires c κs = search needs
+
+count-requires : tie.Need-count-requires Inv-loop μ-loop
+count-requires c κs = search needs
+
+loop-holds : tie.Need-loop-holds Inv-loop μ-loop
+loop-holds c = search needs
+
+step-requires : tie.Need-step-requires Inv-loop μ-loop
+step-requires c κs = search needs
+
+draw-requires : tie.Need-draw-requires Inv-loop μ-loop
+draw-requires c κs = search needs
+
+update-screen-requires : tie.Need-update-screen-requires Inv-loop μ-loop
+update-screen-requires c κs = search needs
+
+answer-requires : tie.Need-answer-requires Inv-loop μ-loop
+answer-requires c κs = search needs
+
+sub-left : tie.Need-sub-left Inv-loop μ-loop
+sub-left c = search needs
+
+loop-less : tie.Need-loop-less Inv-loop μ-loop
+loop-less c = search needs
+
+loop-again : tie.Need-loop-again Inv-loop μ-loop
+loop-again c = search needs
+
+same-length : tie.Need-same-length Inv-loop μ-loop
+same-length c = search needs
+
+same-length-2 : tie.Need-same-length-2 Inv-loop μ-loop
+same-length-2 c = search needs
+
+returns : tie.Need-returns Inv-loop μ-loop
+returns c = search needs
+
+pub show-spec : {M : Type 1} → statement M
+show-spec =
+    tie.close
+    (tie.spec
+    Inv-loop
+    μ-loop
+    stream-requires
+    count-requires
+    loop-holds
+    step-requires
+    draw-requires
+    update-screen-requires
+    answer-requires
+    sub-left
+    loop-less
+    loop-again
+    same-length
+    same-length-2
+    returns)

@@ -1,0 +1,196 @@
+// Joypad writes: the round's command as pulses, with a fault in the later rounds; then lines at random, and polling.
+ghost use mathlib.Core.Path.{_≡_};
+ghost use Prim.Native.Nat.{_<_, _≤_};
+ghost use lib.ListN.{length};
+use crate::chance::below;
+use crate::chance::byte;
+use crate::chance::fill;
+use crate::chance::step;
+use crate::chance::stream;
+use crate::digest::bytes;
+use crate::digest::number;
+use unit::Written;
+
+// The round's writes; answers the digest of all that they told.
+pub fn write(
+    round: usize,
+    first: u8,
+    block: &mut [u8],
+    command: &mut [u8],
+    sent: &mut [u8],
+    writes: &mut [u8],
+    h: u64,
+) -> u64
+    requires { ⌜ (length (now sent) ≡ 112) × (length (now writes) ≡ 1820) ⌝ }
+{
+    let d = transmit(round, first, block, command, sent, writes, h);
+    idle(round, block, command, writes, d)
+}
+
+fn transmit(
+    round: usize,
+    first: u8,
+    block: &mut [u8],
+    command: &mut [u8],
+    sent: &mut [u8],
+    writes: &mut [u8],
+    h: u64,
+) -> u64
+    requires { ⌜ (length (now sent) ≡ 112) × (length (now writes) ≡ 1820) ⌝ }
+{
+    let n = packets(first);
+    make(stream(round, 1), first, &mut sent[0..16 * n]);
+    encode(first, &sent[0..16 * n], writes);
+    let end = spoil(round, &mut writes[0..260 * n]);
+    send(block, &writes[0..end], command, h)
+}
+
+// As many packets as are sent: a command whose count is 0 takes one, too.
+fn packets(first: u8) -> usize
+    ensures { λ r. ⌜ (0 < r) × (r < 8) ⌝ }
+{
+    if first >= 0xF0 {
+        return 1;
+    }
+    if first % 8 == 0 {
+        return 1;
+    }
+    bits::wide(first % 8)
+}
+
+// Whether the count is 0.
+fn empty(first: u8) -> bool {
+    if first >= 0xF0 {
+        return false;
+    }
+    first % 8 == 0
+}
+
+// A command of noise, or of data nearer to the map than noise is. The encoder refuses a count of 0, so it is given 1.
+fn make(from: u64, first: u8, d: &mut [u8]) {
+    let shaped = byte(from) < 128;
+    let mut x = from;
+    let mut i = 0;
+    while i < d.len() {
+        x = step(x);
+        d[i] = data(first, i, byte(x), shaped);
+        i += 1;
+    }
+}
+
+fn data(first: u8, i: usize, noise: u8, shaped: bool) -> u8 {
+    if i == 0 {
+        return if empty(first) { first | 1 } else { first };
+    }
+    if shaped {
+        return noise & mask(first >> 3, i);
+    }
+    noise
+}
+
+// ATTR_BLK's count and corners, ATTR_DIV's line and ATTR_CHR's start below 32; ATTR_CHR's count below 512, along rows or down columns.
+fn mask(code: u8, i: usize) -> u8 {
+    if code == 4 {
+        // control and palettes stand at 2 and 3 of every six
+        return if i % 6 / 2 == 1 { 0xFF } else { 0x1F };
+    }
+    if code == 6 {
+        return if i == 2 { 0x1F } else { 0xFF };
+    }
+    if code == 7 {
+        if i < 3 {
+            return 0x1F;
+        }
+        return if i / 2 == 2 { 1 } else { 0xFF };
+    }
+    0xFF
+}
+
+// The pulses of the command; a count of 0 is that of 1 with its one bit cleared.
+fn encode(first: u8, d: &[u8], writes: &mut [u8])
+    requires { ⌜ length (now writes) ≡ 1820 ⌝ }
+{
+    pulses::encode(d, writes);
+    if empty(first) {
+        writes[2] = 0x20;
+    }
+}
+
+// In every second of the later rounds one write is changed, or the command is cut short there. Answers how many writes are left.
+fn spoil(round: usize, writes: &mut [u8]) -> usize
+    requires { ⌜ 0 < length (now writes) ⌝ }
+    ensures { λ r. ⌜ r ≤ length (now (writes .entry)) ⌝ }
+{
+    if round < 512 {
+        return writes.len();
+    }
+    if round % 2 == 1 {
+        return writes.len();
+    }
+    let x = stream(round, 2);
+    let at = below(x, writes.len());
+    let how = byte(x) & 0x30;
+    if how == 0 {
+        return at;
+    }
+    writes[at] ^= how;
+    writes.len()
+}
+
+// Lines at random, then polling, in which P15 rises at every fourth write.
+fn idle(round: usize, block: &mut [u8], command: &mut [u8], writes: &mut [u8], h: u64) -> u64
+    requires { ⌜ length (now writes) ≡ 1820 ⌝ }
+{
+    let x = stream(round, 3);
+    let n = lines(below(x, 64));
+    fill(&mut writes[0..n], x);
+    let d = send(block, &writes[0..n], command, h);
+    let m = below(step(x), 65);
+    poll(&mut writes[0..m]);
+    send(block, &writes[0..m], command, d)
+}
+
+// None in every second round.
+fn lines(n: usize) -> usize
+    ensures { λ r. ⌜ r < 32 ⌝ }
+{
+    if n < 32 { n } else { 0 }
+}
+
+fn poll(writes: &mut [u8]) {
+    let mut i = 0;
+    while i < writes.len() {
+        writes[i] = line(i % 4);
+        i += 1;
+    }
+}
+
+fn line(turn: usize) -> u8 {
+    if turn == 1 {
+        return 0x20;
+    }
+    if turn == 2 {
+        return 0x10;
+    }
+    0x30
+}
+
+fn send(block: &mut [u8], writes: &[u8], command: &mut [u8], h: u64) -> u64 {
+    let mut d = h;
+    let mut i = 0;
+    while i < writes.len() {
+        let told = unit::write_joypad(block, writes[i], command);
+        d = answer(d, told, command);
+        i += 1;
+    }
+    d
+}
+
+// Nothing is 0, a refusal n 256 + n; a command is its packets and the whole buffer, of which the tail is kept.
+fn answer(h: u64, told: Written, command: &[u8]) -> u64 {
+    match told {
+        Written::Refused(n) => number(h, 256 + (n as u64)),
+        Written::Nothing => number(h, 0),
+        Written::Command(n) => bytes(number(h, n as u64), command),
+    }
+}

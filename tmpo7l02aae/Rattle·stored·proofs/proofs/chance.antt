@@ -1,0 +1,5 @@
+pub mod below
+pub mod byte
+pub mod fill
+pub mod step
+pub mod stream

@@ -1,0 +1,2 @@
+pub use Rattle.stored.proofs.chance.below.Code.{routine}
+pub use Rattle.stored.proofs.chance.below.Key.{name}

@@ -1,0 +1,2 @@
+pub use Rattle.stored.proofs.chance.byte.Code.{routine}
+pub use Rattle.stored.proofs.chance.byte.Key.{name}

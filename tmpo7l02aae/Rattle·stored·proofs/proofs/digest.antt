@@ -1,0 +1,4 @@
+pub mod bytes
+pub mod number
+mod wide
+pub mod words

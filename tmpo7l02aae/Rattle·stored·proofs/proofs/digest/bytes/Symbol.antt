@@ -1,0 +1,2 @@
+pub use Rattle.stored.proofs.digest.bytes.Code.{routine}
+pub use Rattle.stored.proofs.digest.bytes.Key.{name}

@@ -1,0 +1,2 @@
+pub use Rattle.stored.proofs.digest.words.Code.{routine}
+pub use Rattle.stored.proofs.digest.words.Key.{name}

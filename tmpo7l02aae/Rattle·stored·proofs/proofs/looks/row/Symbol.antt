@@ -1,0 +1,2 @@
+pub use Rattle.stored.proofs.looks.row.Code.{routine}
+pub use Rattle.stored.proofs.looks.row.Key.{name}

@@ -1,0 +1,2 @@
+pub use Rattle.stored.proofs.rounds.all.Code.{routine}
+pub use Rattle.stored.proofs.rounds.all.Key.{name}

@@ -1,0 +1,2 @@
+pub use Rattle.stored.proofs.rounds.tell.Code.{routine}
+pub use Rattle.stored.proofs.rounds.tell.Key.{name}

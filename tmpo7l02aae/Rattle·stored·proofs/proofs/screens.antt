@@ -1,0 +1,6 @@
+mod answer
+mod count
+mod draw
+mod kind
+mod pixels
+pub mod show

@@ -1,0 +1,2 @@
+pub use Rattle.stored.proofs.screens.answer.Code.{routine}
+pub use Rattle.stored.proofs.screens.answer.Key.{name}

@@ -1,0 +1,2 @@
+pub use Rattle.stored.proofs.screens.count.Code.{routine}
+pub use Rattle.stored.proofs.screens.count.Key.{name}

@@ -1,0 +1,2 @@
+pub use Rattle.stored.proofs.screens.pixels.Code.{routine}
+pub use Rattle.stored.proofs.screens.pixels.Key.{name}

@@ -1,0 +1,2 @@
+pub use Rattle.stored.proofs.writes.data.Code.{routine}
+pub use Rattle.stored.proofs.writes.data.Key.{name}

@@ -1,0 +1,2 @@
+pub use Rattle.stored.proofs.writes.make.Code.{routine}
+pub use Rattle.stored.proofs.writes.make.Key.{name}

@@ -1,0 +1,132 @@
+-- the `use` lines below are this print's own: the module states none of them
+use Rattle.stored.proofs.writes.mask.Code
+use Rattle.stored.proofs.writes.mask.Key
+use Rattle.stored.proofs.writes.mask.Kinds
+use Rattle.stored.proofs.writes.mask.Lts
+use Rattle.stored.proofs.writes.mask.Reads
+use Rattle.stored.proofs.writes.mask.Statement
+use borrow.Fn.Run
+use borrow.Fn.Written
+use contract.Running
+
+abbrev pub Start : Type 0
+Start = Lts.Start Reads.Pre Reads.Post
+
+abbrev pub Then1 : Type 0
+Then1 = Lts.Then1 Reads.Pre Reads.Post
+
+abbrev pub Then2 : Type 0
+Then2 = Lts.Then2 Reads.Pre Reads.Post
+
+abbrev pub Else2 : Type 0
+Else2 = Lts.Else2 Reads.Pre Reads.Post
+
+abbrev pub Else1 : Type 0
+Else1 = Lts.Else1 Reads.Pre Reads.Post
+
+abbrev pub Then3 : Type 0
+Then3 = Lts.Then3 Reads.Pre Reads.Post
+
+abbrev pub Then4 : Type 0
+Then4 = Lts.Then4 Reads.Pre Reads.Post
+
+abbrev pub Else4 : Type 0
+Else4 = Lts.Else4 Reads.Pre Reads.Post
+
+abbrev pub Else3 : Type 0
+Else3 = Lts.Else3 Reads.Pre Reads.Post
+
+abbrev pub Then5 : Type 0
+Then5 = Lts.Then5 Reads.Pre Reads.Post
+
+abbrev pub Then6 : Type 0
+Then6 = Lts.Then6 Reads.Pre Reads.Post
+
+abbrev pub Else6 : Type 0
+Else6 = Lts.Else6 Reads.Pre Reads.Post
+
+abbrev pub Then7 : Type 0
+Then7 = Lts.Then7 Reads.Pre Reads.Post
+
+abbrev pub Else7 : Type 0
+Else7 = Lts.Else7 Reads.Pre Reads.Post
+
+abbrev pub Else5 : Type 0
+Else5 = Lts.Else5 Reads.Pre Reads.Post
+
+abbrev pub Need-returns : Type 0
+Need-returns = Lts.Need-returns Reads.Pre Reads.Post
+
+abbrev pub Need-returns-2 : Type 0
+Need-returns-2 = Lts.Need-returns-2 Reads.Pre Reads.Post
+
+abbrev pub Need-returns-3 : Type 0
+Need-returns-3 = Lts.Need-returns-3 Reads.Pre Reads.Post
+
+abbrev pub Need-returns-4 : Type 0
+Need-returns-4 = Lts.Need-returns-4 Reads.Pre Reads.Post
+
+abbrev pub Need-returns-5 : Type 0
+Need-returns-5 = Lts.Need-returns-5 Reads.Pre Reads.Post
+
+abbrev pub Need-returns-6 : Type 0
+Need-returns-6 = Lts.Need-returns-6 Reads.Pre Reads.Post
+
+abbrev pub Need-returns-7 : Type 0
+Need-returns-7 = Lts.Need-returns-7 Reads.Pre Reads.Post
+
+abbrev pub Need-returns-8 : Type 0
+Need-returns-8 = Lts.Need-returns-8 Reads.Pre Reads.Post
+
+module _ {M : Type 1} where
+  pub spec :
+      (answer : Need-returns) →
+      (answer : Need-returns-2) →
+      (answer : Need-returns-3) →
+      (answer : Need-returns-4) →
+      (answer : Need-returns-5) →
+      (answer : Need-returns-6) →
+      (answer : Need-returns-7) →
+      (answer : Need-returns-8) →
+      Lts.Closed Reads.Pre Reads.Post M
+  spec =
+      λ answer answer' answer'' answer'3 answer'4 answer'5 answer'6 answer'7. Lts.spec
+      Reads.Pre
+      Reads.Post
+      answer
+      answer'
+      answer''
+      answer'3
+      answer'4
+      answer'5
+      answer'6
+      answer'7
+
+  pub close : Lts.Closed Reads.Pre Reads.Post M → Statement.statement M
+  unfolding Code.routine Running.tablesOf
+  close =
+      λ closed 𝓤 H 𝓜 𝓖 𝓡. Written.close
+      0
+      Kinds.ps
+      Kinds.r
+      Reads.Ghost
+      Reads.requires
+      Reads.ensures
+      Reads.pre-read
+      Reads.Pinned
+      Reads.Owned
+      Reads.post-read
+      record { M = M; 𝓤 = 𝓤; H = H; 𝓜 = 𝓜; 𝓖 = 𝓖; 𝓡 = 𝓡 }
+      Code.env
+      Key.name
+      Code.function
+      (Code.unfolded 𝓤 H 𝓜 𝓡)
+      (λ κs a g. tt)
+      (λ κs. Reads.owns κs record { M = M; 𝓤 = 𝓤; H = H; 𝓜 = 𝓜; 𝓖 = 𝓖; 𝓡 = 𝓡 })
+      (Reads.passes record { M = M; 𝓤 = 𝓤; H = H; 𝓜 = 𝓜; 𝓖 = 𝓖; 𝓡 = 𝓡 })
+      λ g. closed
+      𝓤
+      H
+      (𝓖 .A)
+      (Running.givenOf 𝓤 H 𝓜 𝓖)
+      (Run.Over 𝓤 H 𝓜 𝓖 𝓡 Code.env)

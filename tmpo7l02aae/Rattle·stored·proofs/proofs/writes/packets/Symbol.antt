@@ -1,0 +1,2 @@
+pub use Rattle.stored.proofs.writes.packets.Code.{routine}
+pub use Rattle.stored.proofs.writes.packets.Key.{name}

@@ -1,0 +1,2 @@
+pub use Rattle.stored.proofs.writes.poll.Code.{routine}
+pub use Rattle.stored.proofs.writes.poll.Key.{name}

@@ -1,0 +1,2 @@
+pub use Rattle.stored.proofs.writes.spoil.Code.{routine}
+pub use Rattle.stored.proofs.writes.spoil.Key.{name}
