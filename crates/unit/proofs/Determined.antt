@@ -125,15 +125,16 @@ row-determined k a r s e f p q = λ t. (one numberTold one-number r s (p .0) (q 
 pub picture-determined : (k : _) → Determined (Number × List ℕ) (picture.Learnt k) (λ r e. (r, now (e .1 .0)))
 picture-determined k a r s e f p q = λ t. (one numberTold one-number r s (p .0) (q .0) t, same _ _ (p .1) (q .1) t)
 
+-- the colour
+pub to-rgb8-determined : (k : _) → Determined Rgb8 (to-rgb8.Learnt k) (λ r e. r)
+to-rgb8-determined k a r s e f p q = same r s p q
+
 -- the bytes of the part that is handed back
 pub displayed-screen-determined : (k : _) → Determined (List ℕ) (displayed-screen.Learnt k) (λ r e. now r)
 displayed-screen-determined k a r s e f p q = same _ _ p q
 
 pub tile-determined : (k : _) → Determined (List ℕ) (tile.Learnt k) (λ r e. now r)
 tile-determined k a r s e f p q = same _ _ p q
-
-pub to-rgb8-determined : (k : _) → Determined Rgb8 (to-rgb8.Learnt k) (λ r e. r)
-to-rgb8-determined k a r s e f p q = same r s p q
 
 pub encode-determined : (k : _) → Determined (Encoded × List ℕ) (encode.Learnt k) (λ r e. (r, now (e .1 .0)))
 encode-determined k a r s e f p q = λ t. (one encodedAnswer one-encoded r s (p .answer) (q .answer) t, same _ _ (p .output) (q .output) t)
