@@ -11,7 +11,7 @@ use Rattle.parts.specs.Parts.{mapBytes}
 use Rattle.bits.specs.Pair.{pairOf, packed}
 use Rattle.bits.proofs.Pairs.{pair-lt, pair-of-packed, packed-of-pairs}
 use Rattle.bits.proofs.Tabs.{length-tab, getD-tab}
-use Rattle.attribute_map.specs.Map.{columns, rows, rowBytes, cell, Sized, fourAt, pack, pairAt, unpack}
+use Rattle.attribute_map.specs.Map.{columns, rows, rowBytes, cell, Sized, fourAt, pack, packedCell, unpack}
 use Rattle.attribute_map.proofs.Grids.{grid-sized, grid-cell, grid-is}
 
 -- four pairs put together by shifts and OR
@@ -44,18 +44,18 @@ pack-byte m i h = rw (getD-pack m i h) (packed-lt (λ j. cell m (4 * (i % rowByt
 
 pub unpack-sized : (b : List ℕ) → Sized (unpack b)
 unfolding unpack
-unpack-sized b = grid-sized (pairAt b)
+unpack-sized b = grid-sized (packedCell b)
 
-pub unpack-cell : (b : List ℕ) (x y : ℕ) → x < columns → y < rows → cell (unpack b) x y ≡ pairAt b x y
+pub unpack-cell : (b : List ℕ) (x y : ℕ) → x < columns → y < rows → cell (unpack b) x y ≡ packedCell b x y
 unfolding unpack
-unpack-cell b x y hx hy = grid-cell (pairAt b) x y hx hy
+unpack-cell b x y hx hy = grid-cell (packedCell b) x y hx hy
 
 -- a map of palette numbers comes back as it was
 pub unpack-pack : {m : List (List ℕ)} → Sized m → ((x y : ℕ) → x < columns → y < rows → cell m x y < 4) → unpack (pack m) ≡ m
 unfolding unpack
 unpack-pack {m} s h =
     sym
-    (grid-is s (pairAt (pack m))
+    (grid-is s (packedCell (pack m))
     (λ x y hx hy.
     let i : ℕ = rowBytes * y + x / 4 in
     let f : ℕ → ℕ = λ j. cell m (4 * (i % rowBytes) + j) (i / rowBytes) % 4 in

@@ -45,9 +45,9 @@ unfoldable pub pack : List (List ℕ) → List ℕ
 pack m = tab mapBytes (fourAt m)
 
 -- the cell in column x and row y of packed bytes
-abbrev pub pairAt : List ℕ → ℕ → ℕ → ℕ
-pairAt b x y = pairOf (getD b (rowBytes * y + x / 4) 0) (x % 4)
+abbrev pub packedCell : List ℕ → ℕ → ℕ → ℕ
+packedCell b x y = pairOf (getD b (rowBytes * y + x / 4) 0) (x % 4)
 
 -- the map that bytes are
 unfoldable pub unpack : List ℕ → List (List ℕ)
-unpack b = grid (pairAt b)
+unpack b = grid (packedCell b)

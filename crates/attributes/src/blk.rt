@@ -4,7 +4,7 @@ ghost use mathlib.Core.Bool.{_&&_};
 ghost use Prim.Native.Nat.{_+_, _*_, _≤_};
 ghost use lib.ListN.{length};
 ghost use Rattle.attributes.specs.Data.{Whole, changed};
-ghost use Rattle.attributes.specs.Blk.{strictly, within, inside, closed, onLine, blkPick, blkCell, setAt, blkMap};
+ghost use Rattle.attributes.specs.Blk.{strictly, within, onLine, blkPick, blkCell, setAt, blkMap};
 
 // One set, as it stands in the command.
 pub struct BlkSet {

@@ -1,6 +1,5 @@
 // ATTR_CHR: cell after cell.
 ghost use mathlib.Core.Path.{_≡_};
-ghost use mathlib.Core.Bool.{Bool};
 ghost use Prim.Native.Nat.{_+_, _-_, _*_, _≤_, _<_};
 ghost use lib.ListN.{length};
 ghost use Rattle.attributes.specs.Data.{Whole, steps};

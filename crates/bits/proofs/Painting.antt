@@ -1,7 +1,7 @@
 -- Laws of runs of writes: a loop's turn (`painted-turn`), adjoining runs (`painted-run`), and the end, where the run from the front
 -- is a `tab` and the kept tail (`painted-tab`) or the whole list (`painted-all`).
 use mathlib.Core.Path.{_≡_, refl, sym, ap, ap₂, _∙_, subst}
-use mathlib.Core.List.{List, [], _∷_, _++_, append-nil}
+use mathlib.Core.List.{List, _++_, append-nil}
 use Prim.Native.Nat.{ℕ, zero, suc, _+_, _≤_, _<_}
 use native.Mathlib.Nat.{add-zero, zero-add, not-suc-le-zero, eq-or-lt-of-le, le-of-suc-le-suc}
 use native.Mathlib.Omega.{arith}

@@ -1,10 +1,8 @@
 -- What a worker on the block requires, and what it leaves: the block of the unit after a change or a command.
 use Prim.Native.Nat.{ℕ}
-use mathlib.Core.Path.{_≡_}
-use mathlib.Core.Bool.{true}
 use mathlib.Core.List.{List}
 use Rattle.commands.specs.Command.{Command}
-use lib.ListN.{length, replicate, set}
+use lib.ListN.{replicate, set}
 use Rattle.bits.specs.Over.{over}
 use Rattle.parts.specs.Parts.{presetOnAt, presetAt, presetBytes}
 use Rattle.layout.specs.Block.{load, save}

@@ -2,12 +2,13 @@
 use mathlib.Core.Path.{_≡_}
 use mathlib.Core.Bool.{Bool, true, false, cond}
 use mathlib.Core.List.{List, [], _∷_}
-use Prim.Native.Nat.{ℕ, _/_, _%_, _<_}
+use Prim.Native.Nat.{ℕ, _%_, _<_}
 use native.Mathlib.Omega.{arith}
 use native.Mathlib.Decide.{ℕ-discrete}
 use borrow.Author.Tests.{eq-eqb, ne-eqb}
 use lib.Dec.{eqb, lit<}
 use lib.ListN.{getD}
+use Rattle.receiver.specs.Count.{codeOf}
 use Rattle.attributes.specs.Data.{Whole}
 use Rattle.commands.specs.Command.{Command, masking, Row, table, find, decode}
 use Rattle.commands.specs.Good.{GoodCommand}
@@ -35,5 +36,5 @@ unfolding decode
 decode-good d w =
     let low : getD d 1 0 % 4 < 4 = omega arith in
     let last : GoodCommand (masking (getD d 1 0 % 4)) = masking-good (getD d 1 0 % 4) low (ℕ-discrete (getD d 1 0 % 4) 1) in
-    find-good (getD d 0 0 / 8) (table d)
+    find-good (codeOf (getD d 0 0)) (table d)
     ((lit< tt, lit< tt, w), ((lit< tt, lit< tt, w), ((lit< tt, lit< tt, w), ((lit< tt, lit< tt, w), (w, (w, (w, (w, (w, (tt, (tt, (tt, (tt, (tt, (w, (last, tt))))))))))))))))

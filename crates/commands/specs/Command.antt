@@ -3,10 +3,11 @@
 -- Document 01, Commands; Pan Docs, Command summary.
 use mathlib.Core.Bool.{cond}
 use mathlib.Core.List.{List, [], _∷_}
-use Prim.Native.Nat.{ℕ, _/_, _%_}
+use Prim.Native.Nat.{ℕ, _%_}
 use lib.Dec.{eqb}
 use lib.ListN.{getD}
 use Rattle.bits.specs.Bit.{bitOf}
+use Rattle.receiver.specs.Count.{codeOf}
 use Rattle.transfer.specs.declared.pending.Transfer.{Transfer}
 use Rattle.transfer.specs.declared.pending.Transfer.the-variants.{Palettes, Attributes, BorderTiles, BorderMap}
 
@@ -64,6 +65,6 @@ unfoldable pub find : ℕ → List Row → Command
 find k [] = plain nothing
 find k (r ∷ rs) = cond (eqb k (r .code)) (r .means) (find k rs)
 
--- the code is the first byte / 8
+-- by the code of the first byte
 unfoldable pub decode : List ℕ → Command
-decode d = find (getD d 0 0 / 8) (table d)
+decode d = find (codeOf (getD d 0 0)) (table d)

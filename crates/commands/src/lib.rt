@@ -1,10 +1,9 @@
-// A completed command: which it is, and what it does to the mask, the pads and the packed attribute map.
-// Document 01, Commands; Pan Docs, Command summary. The palette commands are in the crate `palettes`.
+// A completed command: which it is, and what it does to the pads and the packed attribute map.
+// Document 01, Commands; Pan Docs, Command summary. The palette commands are in the crate `palettes`, the mask is `carry`'s.
 mod decoding;
 mod files;
 mod joypads;
 mod maps;
-mod masks;
 
 pub use decoding::Command;
 pub use decoding::FixedCommand;
@@ -18,5 +17,3 @@ pub use maps::attr_blk;
 pub use maps::attr_chr;
 pub use maps::attr_div;
 pub use maps::attr_lin;
-pub use masks::Mask;
-pub use masks::mask_en;

@@ -2,12 +2,12 @@
 -- low byte, where a value leaves 0 and "none" is 128.
 use Prim.Native.Nat.{ℕ, zero, suc, _≤_, _<_}
 use native.Mathlib.Omega.{arith}
-use mathlib.Core.Path.{_≡_, refl, sym, ap, _∙_}
+use mathlib.Core.Path.{_≡_, refl, ap}
 use mathlib.Core.Bool.{Bool, true, false, _&&_, cond}
 use mathlib.Core.List.{List}
 use mathlib.Core.Logic.{_⊎_, inl, inr, ⊎-elim}
 use mathlib.Core.Option.{Option, none, some}
-use lib.Dec.{eqb, ltb, leb, lit<, lit≤}
+use lib.Dec.{eqb, ltb, leb, lit≤}
 use lib.ListN.{length}
 use Rattle.bits.proofs.Tests.{either}
 use Rattle.colour.specs.declared.Rgb8.{Rgb8}
@@ -15,18 +15,12 @@ use Rattle.pulses.specs.Answer.{Answer, refused, given}
 use Rattle.pulses.specs.Bytes.{malformed}
 use Rattle.pulses.specs.Encode.{encoding, short}
 use Rattle.pulses.specs.Verdict.{judged}
-use Rattle.transfer.specs.Pending.{numberOf, pendingOf}
-use Rattle.transfer.specs.declared.pending.Transfer.{Transfer}
-use Rattle.transfer.specs.declared.pending.Pending.the-variants as pending
-use Rattle.transfer.specs.declared.pending.Landed.{Landed}
-use Rattle.transfer.specs.declared.pending.Landed.the-variants.{Nothing, Page}
-use Rattle.transfer.proofs.Pendings.{kind-read-back}
-use Rattle.layout.specs.Layout.{blockBytes, storeBytes, captureBytes}
+use Rattle.parts.specs.Parts.{blockBytes, storeBytes, captureBytes}
 use Rattle.layout.specs.Valid.{valid}
 use Rattle.view.specs.Refusal.{refusing}
 use Rattle.view.specs.Drawn.{modeOf, backdropAnswer, shadeAnswer, entryAnswer, borderAnswer, rowAnswer, pictureAnswer}
 use Rattle.unit.specs.Calls.{writeAnswer, screenAnswer}
-use Rattle.export.specs.Coded.{coded, value, optional, landed, truth}
+use Rattle.export.specs.Coded.{coded, value, optional, truth}
 use Rattle.export.specs.Parts.{rgbNumber}
 
 -- ---- a code of values that stays clear of the refusals
@@ -69,23 +63,6 @@ unfolding optional
 optional-clear none = inr (lit≤ tt)
 optional-clear (some x) = value-clear x
 
-kind-once : (t u : Transfer) → numberOf t ≡ numberOf u → t ≡ u
-kind-once t u e =
-    let b : pending.In 1 t ≡ pending.In 1 u = sym (kind-read-back 1 t (lit< tt)) ∙ (ap (pendingOf 1) e ∙ kind-read-back 1 u (lit< tt)) in
-    cc
-
-landed-once : Once landed
-unfolding landed
-landed-once Nothing Nothing e = refl
-landed-once Nothing (Page u) e = absurd (omega arith)
-landed-once (Page t) Nothing e = absurd (omega arith)
-landed-once (Page t) (Page u) e = ap Page (kind-once t u (value-once (numberOf t) (numberOf u) e))
-
-landed-clear : Clear landed
-unfolding landed
-landed-clear Nothing = inr (lit≤ tt)
-landed-clear (Page t) = value-clear (numberOf t)
-
 truth-once : Once truth
 unfolding truth
 truth-once true true e = refl
@@ -104,9 +81,6 @@ optional-apart = coded-once optional optional-once optional-clear
 
 pub value-apart : (a b : Answer ℕ) → Numbered a → Numbered b → coded value a ≡ coded value b → a ≡ b
 value-apart = coded-once value value-once value-clear
-
-pub landed-apart : (a b : Answer Landed) → Numbered a → Numbered b → coded landed a ≡ coded landed b → a ≡ b
-landed-apart = coded-once landed landed-once landed-clear
 
 pub truth-apart : (a b : Answer Bool) → Numbered a → Numbered b → coded truth a ≡ coded truth b → a ≡ b
 truth-apart = coded-once truth truth-once truth-clear

@@ -1,5 +1,5 @@
 -- Every number that a call answers leaves the low byte of what crosses free: a mask mode, 256, 57,344, at most 1,820 writes.
-use Prim.Native.Nat.{ℕ, _*_, _<_}
+use Prim.Native.Nat.{ℕ, _<_}
 use native.Mathlib.Omega.{arith}
 use mathlib.Core.Path.{_≡_, sym, subst}
 use mathlib.Core.Bool.{true}
@@ -11,7 +11,7 @@ use Rattle.receiver.proofs.Sound.{count-few}
 use Rattle.pulses.specs.Answer.{Answer, given}
 use Rattle.pulses.specs.Bytes.{packetsIn, malformed}
 use Rattle.pulses.specs.Encode.{encoding, short}
-use Rattle.layout.specs.Layout.{blockBytes}
+use Rattle.parts.specs.Parts.{blockBytes}
 use Rattle.layout.specs.Valid.{valid}
 use Rattle.layout.proofs.Goods.{valid-good}
 use Rattle.view.specs.Refusal.{refusing}

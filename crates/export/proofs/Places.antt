@@ -1,13 +1,14 @@
 -- A part of lent bytes is where it is told to be, and is told to be nowhere exactly if it is empty.
 use Prim.Native.Nat.{ℕ, _*_, _≤_}
 use native.Mathlib.Omega.{arith}
-use mathlib.Core.Path.{_≡_, refl, sym, ap, _∙_}
+use mathlib.Core.Path.{_≡_, refl}
 use mathlib.Core.Bool.{Bool, true, false, cond}
 use mathlib.Core.List.{List, [], _∷_}
 use mathlib.Core.Option.{some}
 use lib.Dec.{eqb, leb}
 use lib.ListN.{length, take, drop}
 use borrow.Author.Tests.{eq-eqb, ne-eqb, leb-true}
+use Rattle.parts.specs.Parts.{tilesBytes, captureBytes}
 use Rattle.screen.specs.Displayed.{displayed}
 use Rattle.border.specs.Tile.{tilePart}
 use Rattle.export.specs.Coded.{value, optional}
@@ -25,7 +26,7 @@ some-placed p place n = rw (ne-eqb (length p) 0 n)
 
 pub tile-within : (tiles : List ℕ) (n : ℕ) → (length (tilePart tiles n) ≡ 0 → ⊥) → n ≤ 255
 unfolding tilePart
-tile-within tiles n f = go (eqb (length tiles) 8192) (leb n 255) refl f
+tile-within tiles n f = go (eqb (length tiles) tilesBytes) (leb n 255) refl f
   where
     go : (s t : Bool) → leb n 255 ≡ t → (length (cond s (cond t (take 32 (drop (n * 32) tiles)) []) []) ≡ 0 → ⊥) → n ≤ 255
     go true true e g = leb-true n 255 e
@@ -36,7 +37,7 @@ tile-within tiles n f = go (eqb (length tiles) 8192) (leb n 255) refl f
 
 pub tile-read : (tiles : List ℕ) (n : ℕ) → tileRead (tileAt tiles n) tiles ≡ tilePart tiles n
 unfolding tileRead tileAt placed tilePart
-tile-read tiles n = go (eqb (length tiles) 8192) (leb n 255)
+tile-read tiles n = go (eqb (length tiles) tilesBytes) (leb n 255)
   where
     held : (p : List ℕ) → tileRead (some (n * 32)) tiles ≡ p → tileRead (placed p (n * 32)) tiles ≡ p
     held [] e = refl
@@ -49,7 +50,7 @@ tile-read tiles n = go (eqb (length tiles) 8192) (leb n 255)
 
 pub capture-read : (live frozen : List ℕ) (mode : ℕ) → captureRead (capture live frozen mode) live frozen ≡ displayed live frozen mode
 unfolding captureRead capture placed displayed
-capture-read live frozen mode = go (eqb (length live) 5760) (eqb (length frozen) 5760) (eqb mode 1)
+capture-read live frozen mode = go (eqb (length live) captureBytes) (eqb (length frozen) captureBytes) (eqb mode 1)
   where
     held : (p : List ℕ) (k : ℕ) → captureRead (some k) live frozen ≡ p → captureRead (placed p k) live frozen ≡ p
     held [] k e = refl

@@ -7,9 +7,6 @@ use Prim.Native.Nat.{ℕ, _*_, _<_}
 use mathlib.Core.Bool.{Bool, cond}
 use mathlib.Core.Option.{Option, none, some}
 use Rattle.pulses.specs.Answer.{Answer, refused, given}
-use Rattle.transfer.specs.Pending.{numberOf}
-use Rattle.transfer.specs.declared.pending.Landed.{Landed}
-use Rattle.transfer.specs.declared.pending.Landed.the-variants.{Nothing, Page}
 
 -- an answer whose value crosses as `code` tells
 unfoldable pub coded : {A : Type 0} → (A → ℕ) → Answer A → ℕ
@@ -24,11 +21,6 @@ value v = 256 * v
 unfoldable pub optional : Option ℕ → ℕ
 optional none = 128
 optional (some v) = value v
-
--- what a screen made land: its kind, or none
-unfoldable pub landed : Landed → ℕ
-landed Nothing = 128
-landed (Page t) = value (numberOf t)
 
 -- whether a command conforms: 1 or 0
 unfoldable pub truth : Bool → ℕ

@@ -1,11 +1,11 @@
 // Each enum that a public call answers, as the number that crosses (specs/Coded).
 ghost use mathlib.Core.Path.{_≡_};
 ghost use Prim.Native.Nat.{_<_};
-ghost use mathlib.Core.Option.{some};
 ghost use Rattle.pulses.specs.Answer.{encodedAnswer, verdictAnswer};
 ghost use Rattle.unit.specs.Answers.{writtenTold, shownTold};
 ghost use Rattle.view.specs.Answers.{numberTold, colourTold, entryTold, borderTold};
-ghost use Rattle.export.specs.Coded.{coded, value, optional, landed, truth, Fits};
+ghost use Rattle.transfer.specs.Pending.{landedOf};
+ghost use Rattle.export.specs.Coded.{coded, value, optional, truth, Fits};
 use pulses::Conformance;
 use pulses::Encoded;
 use transfer::pending::Landed;
@@ -37,7 +37,7 @@ pub fn of_written(told: Written) -> u32
 }
 
 pub fn of_shown(told: Shown) -> u32
-    ensures { λ r. ⌜ r ≡ coded landed (shownTold told) ⌝ }
+    ensures { λ r. ⌜ r ≡ coded optional (shownTold told) ⌝ }
 {
     match told {
         Shown::Refused(n) => n as u32,
@@ -46,7 +46,7 @@ pub fn of_shown(told: Shown) -> u32
 }
 
 fn of_landed(l: Landed) -> u32
-    ensures { λ r. ⌜ r ≡ landed l ⌝ }
+    ensures { λ r. ⌜ r ≡ optional (landedOf l) ⌝ }
 {
     match l {
         Landed::Nothing => NONE,

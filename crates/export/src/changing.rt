@@ -2,7 +2,7 @@
 ghost use mathlib.Core.Path.{_≡_};
 ghost use Rattle.unit.specs.Calls.{writeAnswer, writeBlock, writeCommand, screenAnswer, screenBlock, freshAnswer, newBlock, postBootBlock};
 ghost use Rattle.view.specs.Refusal.{refusalOf};
-ghost use Rattle.export.specs.Coded.{coded, optional, landed};
+ghost use Rattle.export.specs.Coded.{coded, optional};
 use super::answers;
 
 #[no_mangle]
@@ -39,7 +39,7 @@ pub extern "C" fn sporedrift_write_joypad(block: &mut [u8], value: u8, command: 
 
 #[no_mangle]
 pub extern "C" fn sporedrift_update_screen(block: &mut [u8], screen: &[u8]) -> u32
-    ensures { λ r. ⌜ r ≡ coded landed (screenAnswer (now (block .entry)) (now (screen .entry))) ⌝ }
+    ensures { λ r. ⌜ r ≡ coded optional (screenAnswer (now (block .entry)) (now (screen .entry))) ⌝ }
     ensures { λ _. ⌜ now (block .exit) ≡ screenBlock (now (block .entry)) (now (screen .entry)) ⌝ }
 {
     answers::of_shown(unit::update_screen(block, screen))

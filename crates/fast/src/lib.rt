@@ -1,5 +1,5 @@
 // `run::run` with the same contract, word for word, and whole words of data pulses at once. Next door: the words (`gather`).
-// Measured beside the Rust: on packets 0.05 of its time, where the plain run takes 0.32; on idle polling 0.67 and 0.37.
+// Packets are what it gains on; idle polling costs more than in the plain run. The figures are in docs/BENCH.md.
 ghost use mathlib.Core.Path.{_≡_};
 ghost use mathlib.Core.Bool.{true};
 ghost use Prim.Native.Nat.{_<_, _≤_};

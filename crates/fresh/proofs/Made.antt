@@ -6,7 +6,7 @@ use Prim.Native.Nat.{ℕ, zero, suc, _+_, _*_}
 use native.Mathlib.Numerals.{add-one}
 use native.Mathlib.Omega.{arith}
 use lib.Dec.{lit<}
-use lib.ListN.{length, take, drop, set, replicate, length-append, length-replicate, replicate-append-replicate}
+use lib.ListN.{length, drop, set, replicate, length-append, length-replicate, replicate-append-replicate}
 use lib.Seq.{drop-drop, take-at, drop-at}
 use Rattle.bits.specs.Over.{over}
 use Rattle.receiver.specs.Receive.{idle, stageNumber}
@@ -14,7 +14,7 @@ use Rattle.receiver.specs.Store.{bytesOf}
 use Rattle.layout.proofs.Freshes.{fresh-good}
 use Rattle.layout.proofs.Goods.{length-save}
 use Rattle.layout.proofs.Made.{Made, made-put, made-set, made-save}
-use Rattle.layout.specs.Block.{flat, parts, isHeld, heldBytes, save}
+use Rattle.layout.specs.Block.{flat, isHeld, heldBytes, save}
 use Rattle.layout.specs.Fresh.{wordBytes, times, fresh, new, postBoot}
 use Rattle.parts.specs.Parts.{blockBytes, p15At, bothAt, presetOnAt, presetAt, presetBytes, systemAt, systemBytes, sizes, sum}
 use Rattle.transfer.specs.Pending.{countdownOf, kindOf}

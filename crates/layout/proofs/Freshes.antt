@@ -2,11 +2,10 @@
 use mathlib.Core.Path.{_≡_, refl}
 use mathlib.Core.Bool.{Bool, true, false, cond}
 use mathlib.Core.List.{List, [], _∷_}
-use Prim.Native.Nat.{ℕ, zero, suc, _+_, _*_}
+use Prim.Native.Nat.{ℕ, zero, suc, _*_}
 use native.Mathlib.Omega.{arith}
 use lib.Dec.{lit≤}
 use lib.ListN.{length, replicate, length-append, length-replicate}
-use Rattle.bits.specs.Word.{lowByte, highByte}
 use Rattle.bits.proofs.Zeros.{replicate-zeros}
 use Rattle.receiver.specs.Receive.{idle}
 use Rattle.parts.specs.Parts.{storeBytes, palettesBytes, mapBytes, filesBytes, captureBytes, tilesBytes, borderMapBytes, borderPalettesBytes}

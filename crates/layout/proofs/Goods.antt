@@ -1,13 +1,13 @@
 -- A valid block holds a good unit, and a good unit makes a valid block, which loads as that unit again.
-use mathlib.Core.Path.{_≡_, refl, sym, ap, _∙_}
+use mathlib.Core.Path.{_≡_, refl, ap, _∙_}
 use mathlib.Core.Bool.{true, _&&_, cond}
 use mathlib.Core.List.{List, [], _∷_, map}
-use Prim.Native.Nat.{ℕ, _+_, _^_, _<_, _≤_}
+use Prim.Native.Nat.{ℕ, _^_, _<_, _≤_}
 use native.Mathlib.Nat.{lt-of-lt-of-le}
 use borrow.Author.Tests.{eqb-true, leb-true, eq-eqb, le-leb}
 use lib.Dec.{lit<, lit≤, eqb, leb}
 use lib.Bits.{bitAnd}
-use lib.ListN.{length, take, drop, getD}
+use lib.ListN.{length, take, getD}
 use lib.Pow.{areBytes, pow-mono}
 use Rattle.bits.specs.Over.{part}
 use Rattle.bits.specs.Zero.{zeros}

@@ -13,7 +13,6 @@ use Rattle.parts.specs.Parts.{blockBytes, headerBytes, sizes, sum}
 use Rattle.layout.specs.Block.{flat, parts, load, save}
 use Rattle.layout.specs.Valid.{valid}
 use Rattle.layout.specs.Sgb.{Sgb}
-use Rattle.layout.specs.Good.{Good}
 use Rattle.layout.proofs.Cut.{get-part, put-part, put-sized, length-flat}
 use Rattle.layout.proofs.Saved.{clauses, save-load}
 use Rattle.layout.proofs.Goods.{sized, valid-good}

@@ -1,13 +1,13 @@
 -- A valid block loads and saves to itself, and a good unit saves and loads to itself: each field and its bytes tell each other (`Fields`),
 -- and the parts are the whole (`Cut`).
-use mathlib.Core.Path.{_≡_, refl, sym, ap, _∙_}
+use mathlib.Core.Path.{_≡_, sym, ap, _∙_}
 use mathlib.Core.Bool.{true, _&&_, cond}
-use mathlib.Core.List.{List, [], _∷_, map}
-use Prim.Native.Nat.{ℕ, _+_, _^_, _<_, _≤_}
+use mathlib.Core.List.{List, [], _∷_}
+use Prim.Native.Nat.{ℕ, _+_, _<_, _≤_}
 use native.Mathlib.Omega.{arith}
 use borrow.Author.Tests.{eqb-true}
 use lib.Dec.{lit<, lit≤, eqb, leb}
-use lib.ListN.{length, take, drop, getD}
+use lib.ListN.{length, take}
 use Rattle.bits.specs.Over.{part}
 use lib.Pow.{areBytes}
 use Rattle.bits.specs.Zero.{zeros}
@@ -16,11 +16,9 @@ use Rattle.bits.proofs.Overs.{length-part, getD-part}
 use Rattle.bits.proofs.Tests.{and-left, and-right}
 use Rattle.bits.proofs.Zeros.{zeros-at}
 use Rattle.parts.specs.Parts.{blockBytes, maskAt, indexAt, padsAt, p15At, bothAt, stageAt, expectedAt, receivedAt, bitsAt, presetOnAt, countdownAt, kindAt, frozenOnAt, spareAt, spareBytes, headerBytes, packetAt, packetBytes, storeAt, storeBytes, presetAt, presetBytes, palettesAt, palettesBytes, mapAt, mapBytes, systemAt, systemBytes, filesAt, filesBytes, liveAt, captureBytes, frozenAt, tilesAt, tilesBytes, borderMapAt, borderMapBytes, borderPalettesAt, borderPalettesBytes, sizes}
-use Rattle.layout.specs.Block.{byte, isSet, valueOf, held, load, save, flat, parts, header, heldBytes}
+use Rattle.layout.specs.Block.{byte, isSet, valueOf, held, load, save, flat, header, heldBytes}
 use Rattle.layout.specs.Valid.{v1, v2, v3, v4, v5, v6, maskAllows, validParts, valid}
-use Rattle.layout.specs.Sgb.{Sgb}
-use Rattle.layout.specs.Good.{Good}
-use Rattle.layout.proofs.Cut.{cut, flat-cut, heads-eq, get-part}
+use Rattle.layout.proofs.Cut.{flat-cut, heads-eq}
 use Rattle.layout.proofs.Fields.{flag-of-set, number-of-stage, bytes-of-value, held-number, held-bytes, pending-bytes}
 
 -- what a valid block is, by name

@@ -1,8 +1,8 @@
 -- What a valid block says of the unit that it holds: V1 to V6 again, of the record, and the size of each part.
--- A unit is good exactly if its block is valid and each part has its size (proofs/Goods).
+-- A valid block holds a good unit; a good unit's block is valid and loads as that unit again (proofs/Goods).
 use Prim.Native.Nat.{ℕ, _≤_}
 use mathlib.Core.Path.{_≡_}
-use mathlib.Core.Bool.{Bool, true, cond}
+use mathlib.Core.Bool.{true, cond}
 use mathlib.Core.List.{List}
 use mathlib.Core.Option.{Option, none, some}
 use lib.Bits.{bitAnd}

@@ -4,7 +4,6 @@ use Prim.Native.Nat.{ℕ}
 use mathlib.Core.Path.{_≡_, refl, sym, ap, _∙_}
 use mathlib.Core.Bool.{Bool, true, false, cond}
 use mathlib.Core.List.{List, [], _∷_}
-use mathlib.Core.Option.{Option}
 use borrow.Author.Tests.{eqb-true}
 use lib.ListN.{length}
 use Rattle.parts.specs.Parts.{captureBytes}
@@ -17,7 +16,7 @@ use Rattle.layout.proofs.Goods.{valid-good, good-back, good-valid}
 use Rattle.rules.specs.Write.{written, answer}
 use Rattle.rules.specs.Screen.{shown, screened}
 use Rattle.rules.proofs.Keeps.{good-written, good-screened}
-use Rattle.order.specs.Log.{Event, write, screen, accepts, Seen, seen, shownIf, sees, Outcome, afterWrite, afterScreen, run, Aligned}
+use Rattle.order.specs.Log.{Event, write, screen, accepts, seen, shownIf, sees, Outcome, afterWrite, afterScreen, run, Aligned}
 use Rattle.order.specs.Blocks.{Called, calledWrite, calledScreen, writtenBlock, seenBlock, calls}
 use Rattle.order.proofs.Order.{order}
 

@@ -2,13 +2,13 @@
 use Prim.Native.Nat.{ℕ, zero, suc}
 use mathlib.Core.Path.{_≡_, refl, sym, ap, _∙_}
 use mathlib.Core.List.{List, [], _∷_}
-use mathlib.Core.Option.{Option, none, some, IsSome}
+use mathlib.Core.Option.{Option, none, some}
 use Rattle.receiver.specs.Port.{Port, wrote, answered}
 use Rattle.commands.specs.Command.{Command, plain, fixed, Fixed}
 use Rattle.layout.specs.Sgb.{Sgb, Game, Snes}
 use Rattle.rules.specs.Carry.{carriedGame, carriedSnes, carried, sent}
 use Rattle.rules.specs.Write.{stepped, written, answer, carries, advanced}
-use Rattle.order.specs.Log.{Event, write, screen, Seen, seen, shownIf, sees, Outcome, afterWrite, afterScreen, run, writesOf, screensOf, screensBefore, fixedOf, fixedAt, Aligned}
+use Rattle.order.specs.Log.{Event, write, screen, Seen, seen, shownIf, sees, Outcome, afterWrite, afterScreen, run, writesOf, fixedOf, fixedAt, Aligned}
 use Rattle.order.proofs.Merge.{Mark, shows, does, keep, sieve, pickAt, sieve-same}
 
 fixes : Port → ℕ → Option Fixed

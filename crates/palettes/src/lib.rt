@@ -4,7 +4,7 @@ ghost use mathlib.Core.Path.{_≡_};
 ghost use Prim.Native.Nat.{_+_, _*_, _≤_, _<_};
 ghost use lib.ListN.{length};
 ghost use Rattle.parts.specs.Parts.{palettesBytes, systemBytes};
-ghost use Rattle.palettes.specs.Palettes.{coloured, shared, palPair, systemNumber, palSet};
+ghost use Rattle.palettes.specs.Palettes.{shared, palPair, systemNumber, palSet};
 
 // Palettes a and b get their own colours, and all four share colour 0.
 pub fn pal_pair(palettes: &mut [u8], a: usize, b: usize, d: &[u8])

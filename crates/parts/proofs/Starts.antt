@@ -1,6 +1,6 @@
 -- Each part starts where the one before it ends, and together they are the block.
 use mathlib.Core.Path.{_≡_, refl}
-use mathlib.Core.List.{List, [], _∷_, map}
+use mathlib.Core.List.{[], _∷_, map}
 use Prim.Native.Nat.{ℕ, _+_}
 use lib.ListN.{take}
 use Rattle.parts.specs.Parts.{blockBytes, packetAt, storeAt, presetAt, palettesAt, mapAt, systemAt, filesAt, liveAt, frozenAt, tilesAt, tilesBytes, halfBytes, upperTilesAt, borderMapAt, borderPalettesAt, sizes, sum}

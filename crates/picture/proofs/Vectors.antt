@@ -2,13 +2,13 @@
 -- Assumes nothing.
 use Prim.Native.Nat.{ℕ}
 use mathlib.Core.Path.{_≡_, refl}
-use mathlib.Core.Bool.{true, false}
-use mathlib.Core.List.{List, [], _∷_}
+use mathlib.Core.Bool.{true}
+use mathlib.Core.List.{[], _∷_}
 use Rattle.bits.specs.Pair.{pairOf}
 use Rattle.bits.specs.Word.{word, wordAt}
 use Rattle.colour.specs.Entry.{tileOf, paletteOf}
 use Rattle.screen.specs.Packed.{pairAt}
-use Rattle.screen.specs.Colours.{colourOf, backdropOf, shadedOf, maskedOf, screenPixel}
+use Rattle.screen.specs.Colours.{paletteColour, backdropOf, shadedOf, maskedOf, screenPixel}
 use Rattle.border.specs.Border.{entryAt, draws, indexOf, opaque, borderAt}
 use Rattle.picture.specs.Picture.{Parts, parts, below, pixelAt}
 
@@ -19,5 +19,5 @@ fresh mode = parts [] (191 ∷ 103 ∷ 91 ∷ 38 ∷ 181 ∷ 16 ∷ 102 ∷ 40 �
 -- off the screen and at shade 0 the backdrop, then the preset's other three; black is 0, and the backdrop mode the backdrop
 pub corner : (pixelAt (fresh 0) 47 40 ≡ 26559) × (pixelAt (fresh 0) 48 40 ≡ 26559) × (pixelAt (fresh 0) 49 40 ≡ 9819) × (pixelAt (fresh 0) 51 40 ≡ 10342)
     × (pixelAt (fresh 2) 49 40 ≡ 0) × (pixelAt (fresh 3) 49 40 ≡ 26559)
-unfolding pixelAt below borderAt entryAt opaque indexOf draws tileOf paletteOf screenPixel maskedOf shadedOf backdropOf colourOf wordAt word pairAt pairOf
+unfolding pixelAt below borderAt entryAt opaque indexOf draws tileOf paletteOf screenPixel maskedOf shadedOf backdropOf paletteColour wordAt word pairAt pairOf
 corner = (refl, refl, refl, refl, refl, refl)

@@ -1,6 +1,6 @@
 -- The SNES picture, pixel by pixel: 256 by 224 words.
--- Document 01, Screens, border and picture: "backdrop everywhere; at (48, 40) the displayed screen"; "The border's opaque pixels cover all of it";
--- "Any row asked for alone equals that row of the whole" (proved in proofs/Rows).
+-- Document 01, Screens, border and picture: the backdrop everywhere, the displayed screen at (48, 40), and the border's opaque pixels over
+-- both. That a row asked for alone is that row of the whole is proofs/Rows.
 use Prim.Native.Nat.{ℕ, _+_, _-_, _*_, _/_, _%_}
 use mathlib.Core.Bool.{Bool, cond, _&&_}
 use mathlib.Core.List.{List}

@@ -1,7 +1,6 @@
 // What commands do to each part, and which command it is. (A module may not have the name of a crate that is used.)
 use commands::Command;
 use commands::FixedCommand;
-use commands::Mask;
 use commands::PlainCommand;
 ghost use mathlib.Core.Path.{_≡_};
 ghost use Prim.Native.Nat.{_≤_, _<_};
@@ -81,25 +80,6 @@ pub extern "C" fn probe_pal_set(palettes: &mut [u8], system: &[u8], d: &[u8])
 pub extern "C" fn probe_mlt_req(index: u8, d1: u8) -> u16 {
     let pads = commands::mlt_req(index, d1);
     bits::word(pads.index, pads.mask)
-}
-
-// The mode in the low byte, and whether a capture is held in the high one.
-#[no_mangle]
-pub extern "C" fn probe_mask_en(d1: u8) -> u16 {
-    mask_word(commands::mask_en(d1))
-}
-
-#[no_mangle]
-pub extern "C" fn probe_cancel(mode: u8, frozen: bool, flags: u8) -> u16 {
-    mask_word(Mask { mode, frozen }.cancel(flags))
-}
-
-fn mask_word(m: Mask) -> u16 {
-    let frozen = m.frozen;
-    if frozen {
-        return bits::word(m.mode, 1);
-    }
-    bits::word(m.mode, 0)
 }
 
 // Which command it is: a fixed one from 100 hex on, what it holds in the low byte's low half.

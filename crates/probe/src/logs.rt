@@ -1,7 +1,5 @@
 // A log of writes through the receiver alone, by the plain run or by the fast one, for times and for a look at both.
 ghost use mathlib.Core.Path.{_≡_};
-ghost use Prim.Native.Nat.{_≤_};
-ghost use lib.ListN.{length};
 ghost use Rattle.run.specs.Run.{runs, portOf, endedOf, Ready};
 use receiver::Receiver;
 use run::Lines;

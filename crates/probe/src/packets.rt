@@ -4,7 +4,6 @@ ghost use Prim.Native.Nat.{_<_};
 ghost use lib.ListN.{length};
 ghost use Rattle.parts.specs.Parts.{storeBytes};
 ghost use Rattle.receiver.specs.Count.{countOf};
-ghost use Rattle.receiver.specs.Lines.{indexed};
 ghost use Rattle.receiver.specs.Receive.{words, Sound};
 ghost use Rattle.layout.specs.Block.{stageOf};
 use pulses::Conformance;

@@ -1,4 +1,4 @@
--- The encoder's three answers are the definition's, by the tests that the code makes; and no two outcomes meet one contract.
+-- The encoder's three answers are the definition's, by the tests that the code makes; and what an answer tells is told by no other.
 use mathlib.Core.Path.{_≡_, refl, sym, ap, _∙_}
 use mathlib.Core.List.{List, _++_}
 use Prim.Native.Nat.{ℕ, _*_, _<_, _≤_}
@@ -8,7 +8,6 @@ use borrow.Author.Tests.{lt-ltb, le-ltb}
 use Rattle.pulses.specs.Answer.{given, encodedAnswer, verdictAnswer}
 use Rattle.pulses.specs.Bytes.{packetsIn, commandPackets}
 use Rattle.pulses.specs.Encode.{pulsesOf, short, encoding, encoded, Encodes}
-use Rattle.pulses.specs.Verdict.{Judges}
 use Rattle.pulses.specs.declared.Encoded.{Encoded}
 use Rattle.pulses.specs.declared.Encoded.the-variants as E
 use Rattle.pulses.specs.declared.Conformance.{Conformance}
@@ -42,9 +41,9 @@ module _ (c o : List ℕ) (n : ℕ) (e : n ≡ commandPackets c) where
         output = rw (f .0 .taken, s) (a ∙ ap (λ (j : ℕ). pulsesOf j c ++ drop (260 * j) o) k);
       }
 
--- ---- two outcomes that a contract allows are equal
+-- ---- an answer is told by no other (two outcomes of a call are then equal: `unit`, proofs/Determined)
 
-one-encoded : (a b : Encoded) → encodedAnswer a ≡ encodedAnswer b → a ≡ b
+pub one-encoded : (a b : Encoded) → encodedAnswer a ≡ encodedAnswer b → a ≡ b
 unfolding encodedAnswer
 one-encoded E.Malformed E.Malformed h = refl
 one-encoded E.Malformed E.Short h = absurd (let z : _≡_ {A = ℕ} 5 6 = cc in omega arith)
@@ -56,7 +55,7 @@ one-encoded (E.Writes m) E.Malformed h = absurd (let z : _≡_ {A = ℕ} 0 1 = c
 one-encoded (E.Writes m) E.Short h = absurd (let z : _≡_ {A = ℕ} 0 1 = cc in omega arith)
 one-encoded (E.Writes m) (E.Writes n) h = ap E.Writes (cc)
 
-one-verdict : (a b : Conformance) → verdictAnswer a ≡ verdictAnswer b → a ≡ b
+pub one-verdict : (a b : Conformance) → verdictAnswer a ≡ verdictAnswer b → a ≡ b
 unfolding verdictAnswer
 one-verdict C.Malformed C.Malformed h = refl
 one-verdict C.Malformed C.Conforms h = cc
@@ -67,9 +66,3 @@ one-verdict C.Conforms C.Differs h = cc
 one-verdict C.Differs C.Malformed h = cc
 one-verdict C.Differs C.Conforms h = cc
 one-verdict C.Differs C.Differs h = refl
-
-pub encode-determined : {c out x y : List ℕ} {a b : Encoded} → Encodes c out a x → Encodes c out b y → (a ≡ b) × (x ≡ y)
-encode-determined {a} {b} p q = (one-encoded a b (p .answer ∙ sym (q .answer)), p .output ∙ sym (q .output))
-
-pub verdict-determined : {c : List ℕ} {a b : Conformance} → Judges c a → Judges c b → a ≡ b
-verdict-determined {a} {b} p q = one-verdict a b (p .answer ∙ sym (q .answer))

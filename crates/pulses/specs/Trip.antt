@@ -1,5 +1,5 @@
 -- The way of a command out as pulses and in again: document 01, What the proofs owe a reader, and demand 2: "A command turned into
--- pulses and received with no earlier packet held comes back unchanged". The theorem is `proofs/Round`'s `round-trip`.
+-- pulses and received with no earlier packet held comes back unchanged". The theorem is `proofs/Returns`' `round-trip`.
 use Prim.Native.Nat.{ℕ, _*_}
 use mathlib.Core.Path.{_≡_}
 use mathlib.Core.Bool.{true}

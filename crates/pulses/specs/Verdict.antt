@@ -30,15 +30,15 @@ lastCode = 0x19
 unfoldable pub mostPackets : ℕ → ℕ
 mostPackets code = cond (eqb code attrBlk || eqb code attrLin) 7 (cond (eqb code attrChr) 6 1)
 
-abbrev pub within : ℕ → ℕ → ℕ → Bool
-within least most n = leb least n && leb n most
+abbrev pub oneTo : ℕ → ℕ → Bool
+oneTo most n = leb 1 n && leb n most
 
 -- "the number it announces (d1, d1, word d3) is 1-18, 1-110, 1-360 for those three"
 unfoldable pub announces : ℕ → List ℕ → Bool
 announces code c =
-    cond (eqb code attrBlk) (within 1 18 (getD c 1 0))
-    (cond (eqb code attrLin) (within 1 110 (getD c 1 0))
-    (cond (eqb code attrChr) (within 1 360 (wordAt c 3)) true))
+    cond (eqb code attrBlk) (oneTo 18 (getD c 1 0))
+    (cond (eqb code attrLin) (oneTo 110 (getD c 1 0))
+    (cond (eqb code attrChr) (oneTo 360 (wordAt c 3)) true))
 
 unfoldable pub conformsBy : ℕ → List ℕ → Bool
 conformsBy code c = leb code lastCode && (leb (packetsIn c) (mostPackets code) && announces code c)

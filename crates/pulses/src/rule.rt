@@ -3,7 +3,7 @@ ghost use mathlib.Core.Path.{_≡_};
 ghost use Prim.Native.Nat.{_≤_};
 ghost use lib.ListN.{length};
 ghost use Rattle.pulses.specs.Bytes.{packetsIn};
-ghost use Rattle.pulses.specs.Verdict.{mostPackets, announces, within, conforms};
+ghost use Rattle.pulses.specs.Verdict.{mostPackets, announces, oneTo, conforms};
 use bits::wide;
 use bits::word;
 
@@ -43,26 +43,26 @@ pub fn most_packets(code: u8) -> usize
     if code == ATTR_CHR { 6 } else { 1 }
 }
 
-// Whether the number of sets or cells that the command announces is one that its map has room for.
+// Whether the number that the command announces is allowed: as many sets or lines as seven packets hold, as many cells as the map has.
 pub fn announces(code: u8, command: &[u8]) -> bool
     requires { ⌜ 16 ≤ length (now command) ⌝ }
     ensures { λ r. ⌜ r ≡ announces code (now (command .entry)) ⌝ }
 {
     if code == ATTR_BLK {
-        return within(wide(command[1]), 18);
+        return one_to(wide(command[1]), 18);
     }
     if code == ATTR_LIN {
-        return within(wide(command[1]), 110);
+        return one_to(wide(command[1]), 110);
     }
     if code == ATTR_CHR {
-        return within(word(command[3], command[4]) as usize, 360);
+        return one_to(word(command[3], command[4]) as usize, 360);
     }
     true
 }
 
 // Whether n is from 1 to `most`.
-pub fn within(n: usize, most: usize) -> bool
-    ensures { λ r. ⌜ r ≡ within 1 most n ⌝ }
+pub fn one_to(n: usize, most: usize) -> bool
+    ensures { λ r. ⌜ r ≡ oneTo most n ⌝ }
 {
     if n == 0 { false } else { n <= most }
 }

@@ -2,7 +2,7 @@
 // Document 01, A write; Pan Docs, Command packet transfers. Next door: the packets that are in (`store`), the lines (`lines`).
 // The meaning is in specs/Receive; which receivers are valid, V3, in specs/Valid.
 ghost use mathlib.Core.Path.{_≡_};
-ghost use Prim.Native.Nat.{_≤_, _<_};
+ghost use Prim.Native.Nat.{_<_};
 ghost use Rattle.receiver.specs.Count.{countOf};
 ghost use Rattle.receiver.specs.Lines.{pulseOf};
 ghost use Rattle.receiver.specs.Receive.{rxOf, stepOf, idle, restarted, dataBit, quiet, kept, stopped, clocked, written, stageNumber, Sound};

@@ -3,13 +3,14 @@ use mathlib.Core.Path.{_≡_, refl}
 use mathlib.Core.Bool.{Bool, true, false, cond}
 use mathlib.Core.List.{List, [], _∷_}
 use mathlib.Core.Option.{Option, none, some}
-use Prim.Native.Nat.{ℕ, zero, suc, _*_, _/_, _%_, _<_, _≤_}
+use Prim.Native.Nat.{ℕ, _%_, _<_, _≤_}
 use native.Mathlib.Omega.{arith}
 use borrow.Author.Tests.{eqb-false, ne-eqb}
 use lib.Dec.{lit<, lit≤, eqb}
 use lib.ListN.{length, getD}
 use Rattle.parts.specs.Parts.{palettesBytes, mapBytes, captureBytes}
 use Rattle.bits.specs.Bit.{bitOf}
+use Rattle.receiver.specs.Count.{codeOf}
 use Rattle.palettes.proofs.Lengths.{length-pal-pair, length-pal-set}
 use Rattle.commands.specs.Command as command
 use Rattle.commands.specs.Command.{Command, Row, table, find, masking, decode}
@@ -22,7 +23,7 @@ use Rattle.layout.specs.Good.{GoodGame, GoodSnes, SizedIf}
 use Rattle.layout.specs.Block.{isHeld}
 use Rattle.layout.specs.Valid.{maskAllows}
 use Rattle.layout.specs.Sgb.{Game, Snes}
-use Rattle.rules.specs.Carry.{withPads, withPalettes, withMap, withMask, withoutMask, plainly, fixedly, withPending, sent, carriedGame, carriedSnes}
+use Rattle.rules.specs.Carry.{withPalettes, withMap, withMask, withoutMask, plainly, fixedly, withPending, sent, carriedGame, carriedSnes}
 use Rattle.rules.proofs.Pads.{pads-good, mlt-few, mlt-within}
 
 -- ---- one place of the game's part
@@ -74,6 +75,12 @@ unmasked-good g flags h = go (bitOf 6 flags)
     go : (t : Bool) → GoodGame (withMask (cond t 0 (g .mask)) (g .frozen) g)
     go true = mask-good g 0 (g .frozen) h (lit≤ tt) (unfold maskAllows in refl) (h .frozen)
     go false = mask-good g (g .mask) (g .frozen) h (h .mask) (h .allowed) (h .frozen)
+
+-- PAL_SET and ATTR_SET end a mask at most: the frozen capture stays, whatever their flags
+pub capture-stays : (d : List ℕ) (s : Snes) (g : Game)
+    → (fixedly (command.palSet d) s g .frozen ≡ g .frozen) × (fixedly (command.attrSet d) s g .frozen ≡ g .frozen)
+unfolding fixedly withoutMask withMask withMap withPalettes
+capture-stays d s g = (refl, refl)
 
 -- ---- any command
 
@@ -154,7 +161,7 @@ find-all P k (r ∷ rs) (more p ps) z = either (eqb k (r .code)) (find-all P k r
 pub command-keeps : (d : List ℕ) → 16 ≤ length d → Keeps (decode d)
 unfolding decode plainly fixedly sent
 command-keeps d l =
-    find-all Keeps (getD d 0 0 / 8) (table d)
+    find-all Keeps (codeOf (getD d 0 0)) (table d)
     (more (pair-keeps 0 1 d (lit< tt) (lit< tt) l)
     (more (pair-keeps 2 3 d (lit< tt) (lit< tt) l)
     (more (pair-keeps 0 3 d (lit< tt) (lit< tt) l)

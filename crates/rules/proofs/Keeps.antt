@@ -1,15 +1,15 @@
 -- Every write and every screen keeps a good unit good, and so a valid block valid.
-use mathlib.Core.Path.{_≡_, refl, ap, _∙_}
+use mathlib.Core.Path.{_≡_, refl, _∙_}
 use mathlib.Core.Bool.{Bool, true, false, cond, _&&_}
-use mathlib.Core.List.{List, _++_}
+use mathlib.Core.List.{List}
 use mathlib.Core.Option.{Option, none, some}
-use Prim.Native.Nat.{ℕ, _+_, _-_, _*_, _/_, _<_, _≤_}
+use Prim.Native.Nat.{ℕ, _-_, _*_, _/_, _<_, _≤_}
 use native.Mathlib.Omega.{arith}
 use borrow.Author.Tests.{leb-false}
-use lib.Dec.{lit≤, leb}
-use lib.ListN.{length, take, drop, length-append, length-take, length-drop}
+use lib.Dec.{leb}
+use lib.ListN.{length, take, length-append, length-take, length-drop}
 use lib.Seq.{length-take-le}
-use Rattle.bits.proofs.Overs.{length-over, length-part}
+use Rattle.bits.proofs.Overs.{length-over}
 use Rattle.receiver.specs.Lines.{p14High, p15High, bothHigh, pulseOf}
 use Rattle.receiver.specs.Port.{Port, stepAt, filedAt, answered, wrote}
 use Rattle.receiver.specs.Store.{answerOf, Fits}
@@ -30,7 +30,7 @@ use Rattle.parts.specs.Parts.{storeBytes, captureBytes, tilesBytes, halfBytes, 
 use Rattle.layout.specs.Good.{Good, GoodPort, GoodGame, GoodSnes, GoodPending}
 use Rattle.layout.specs.Sgb.{Sgb, Game, Snes}
 use Rattle.commands.specs.Command as command
-use Rattle.rules.specs.Carry.{carriedGame, carriedSnes, carried}
+use Rattle.rules.specs.Carry.{carried}
 use Rattle.rules.specs.Write.{advanced, meant, carries, stepped, written}
 use Rattle.rules.specs.Screen.{captured, withSystem, withFiles, withTiles, withBorder, landed, landing, shown, screened}
 use Rattle.rules.proofs.Commands.{Keeps, command-keeps, nothing-keeps}

@@ -9,17 +9,17 @@ use Rattle.bits.specs.Word.{wordAt}
 use Rattle.screen.specs.Packed.{shadeAt, cellAt}
 
 -- colour k of palette n: four words a palette
-unfoldable pub colourOf : List ℕ → List ℕ → Bool → ℕ → ℕ → ℕ
-colourOf palettes preset inForce n k = cond inForce (wordAt preset (k * 2)) (wordAt palettes (n * 8 + k * 2))
+unfoldable pub paletteColour : List ℕ → List ℕ → Bool → ℕ → ℕ → ℕ
+paletteColour palettes preset inForce n k = cond inForce (wordAt preset (k * 2)) (wordAt palettes (n * 8 + k * 2))
 
 -- the backdrop: colour 0 of palette 0
 unfoldable pub backdropOf : List ℕ → List ℕ → Bool → ℕ
-backdropOf palettes preset inForce = colourOf palettes preset inForce 0 0
+backdropOf palettes preset inForce = paletteColour palettes preset inForce 0 0
 
 -- a shade under palette n: shade 0 shows the backdrop, whatever the palette
 unfoldable pub shadedOf : List ℕ → List ℕ → Bool → ℕ → ℕ → ℕ
 shadedOf palettes preset inForce n shade =
-    cond (eqb shade 0) (backdropOf palettes preset inForce) (colourOf palettes preset inForce n shade)
+    cond (eqb shade 0) (backdropOf palettes preset inForce) (paletteColour palettes preset inForce n shade)
 
 -- the same under a mask mode: 2 is black, 3 the backdrop
 unfoldable pub maskedOf : List ℕ → List ℕ → Bool → ℕ → ℕ → ℕ → ℕ

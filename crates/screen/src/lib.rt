@@ -4,10 +4,10 @@ use colour::Rgb555;
 ghost use mathlib.Core.Path.{_≡_};
 ghost use Prim.Native.Nat.{_<_, _/_};
 ghost use lib.ListN.{length};
-ghost use Rattle.parts.specs.Parts.{presetBytes, palettesBytes, mapBytes, captureBytes};
+ghost use Rattle.parts.specs.Parts.{presetBytes, palettesBytes, mapBytes};
 ghost use Rattle.screen.specs.Packed.{pairAt};
 ghost use Rattle.screen.specs.Displayed.{displayed};
-ghost use Rattle.screen.specs.Colours.{colourOf, backdropOf, shadedOf, maskedOf, colourAt, screenPixel};
+ghost use Rattle.screen.specs.Colours.{paletteColour, backdropOf, shadedOf, maskedOf, colourAt};
 
 // The whole of the live or of the frozen capture, without copying. The empty part exactly if either is not 5,760 bytes.
 pub fn displayed_screen<'a>(live: &'a [u8], frozen: &'a [u8], mode: u8) -> &'a [u8]
@@ -20,26 +20,6 @@ pub fn displayed_screen<'a>(live: &'a [u8], frozen: &'a [u8], mode: u8) -> &'a [
         return &live[..0];
     }
     if mode == 1 { frozen } else { live }
-}
-
-// The pixel at column x of row y of the screen shown.
-pub fn pixel(
-    palettes: &[u8],
-    preset: &[u8],
-    in_force: bool,
-    attributes: &[u8],
-    screen: &[u8],
-    mode: u8,
-    x: usize,
-    y: usize,
-) -> Rgb555
-    requires { ⌜ (length (now palettes) ≡ palettesBytes) × (length (now preset) ≡ presetBytes) × (length (now attributes) ≡ mapBytes) × (length (now screen) ≡ captureBytes) ⌝ }
-    requires { ⌜ (x < 160) × (y < 144) ⌝ }
-    ensures { λ r. ⌜ r .0 ≡ screenPixel (now (palettes .entry)) (now (preset .entry)) «in_force» (now (attributes .entry)) (now (screen .entry)) mode x y ⌝ }
-{
-    let n = pair_at(attributes, y / 8 * 20 + x / 8);
-    let shade = pair_at(screen, y * 160 + x);
-    masked(palettes, preset, in_force, mode, n, shade)
 }
 
 // A shade at column x of row y, by its cell's palette. It doesn't look at the mask.
@@ -102,7 +82,7 @@ pub fn backdrop(palettes: &[u8], preset: &[u8], in_force: bool) -> Rgb555
 // Colour k of palette n. The preset stands for all four palettes while it is in force.
 fn color(palettes: &[u8], preset: &[u8], in_force: bool, n: usize, k: usize) -> Rgb555
     requires { ⌜ (length (now palettes) ≡ palettesBytes) × (length (now preset) ≡ presetBytes) × (n < 4) × (k < 4) ⌝ }
-    ensures { λ r. ⌜ r .0 ≡ colourOf (now (palettes .entry)) (now (preset .entry)) «in_force» n k ⌝ }
+    ensures { λ r. ⌜ r .0 ≡ paletteColour (now (palettes .entry)) (now (preset .entry)) «in_force» n k ⌝ }
 {
     if in_force {
         let at = k * 2;

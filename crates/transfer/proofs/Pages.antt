@@ -1,6 +1,6 @@
 -- The two passes give the page: the two packed bytes of a tile's row have the row's eight pixels, and the second pass only puts the tiles in order.
 -- Assumes nothing.
-use mathlib.Core.Path.{_≡_, refl, sym, ap, ap₂, _∙_}
+use mathlib.Core.Path.{_≡_, refl, ap, ap₂, _∙_}
 use mathlib.Core.List.{List}
 use Prim.Native.Nat.{ℕ, _+_, _*_, _/_, _%_, _<_}
 use native.Mathlib.Omega.{arith}
@@ -9,7 +9,6 @@ use Rattle.bits.specs.Bit.{bitAt}
 use Rattle.bits.specs.Pair.{pairOf}
 use Rattle.bits.specs.Plane.{byteOf, shadeOf, planeOf}
 use Rattle.bits.specs.Paint.{Painted}
-use Rattle.bits.specs.Tab.{tab}
 use Rattle.bits.proofs.Tabs.{getD-tab}
 use Rattle.bits.proofs.Painting.{painted-turn, painted-count, painted-run, painted-same, painted-all}
 use Rattle.screen.specs.Packed.{pairAt, shadeAt}

@@ -1,10 +1,9 @@
 -- A part that is copied over from its front to its end holds what was copied, and nothing of what it held: so a landing leaves what the page has.
 use mathlib.Core.Path.{_≡_, sym, ap, ap₂, _∙_}
-use mathlib.Core.List.{List, _++_, append-nil}
-use Prim.Native.Nat.{ℕ, _+_, _/_, _%_, _≤_}
+use mathlib.Core.List.{List, _++_}
+use Prim.Native.Nat.{ℕ, _+_, _/_, _%_}
 use native.Mathlib.Omega.{arith}
-use lib.ListN.{length, take, drop, drop-of-length-le, length-take, length-drop}
-use lib.Seq.{take-at, drop-at}
+use lib.ListN.{length, take, drop, length-take, length-drop}
 use Rattle.parts.specs.Parts.{filesBytes, borderMapBytes, borderPalettesBytes, borderBytes}
 use Rattle.bits.specs.Over.{over}
 use Rattle.bits.proofs.Overs.{over-all, over-rest}

@@ -1,16 +1,17 @@
 -- The two bytes and the enum say the same, since each number below 5 names one kind; and a transfer lands at the third screen, since the countdown starts at 3.
 -- Assumes nothing.
-use Prim.Native.Nat.{ℕ, zero, suc, _+_, _<_}
-use mathlib.Core.Path.{_≡_, refl}
-use mathlib.Core.Bool.{Bool, true, false}
+use Prim.Native.Nat.{ℕ, zero, suc, _<_}
+use mathlib.Core.Path.{_≡_, refl, sym, ap, _∙_}
+use mathlib.Core.Bool.{true, false}
 use native.Mathlib.Omega.{arith}
 use borrow.Author.Tests.{ne-eqb}
 use native.Mathlib.Nat.{not-suc-le-zero, le-of-suc-le-suc}
 use Rattle.transfer.specs.declared.pending.Transfer.{Transfer}
 use Rattle.transfer.specs.declared.pending.Transfer.the-variants.{Palettes, Attributes, BorderTiles, BorderMap}
 use Rattle.transfer.specs.declared.pending.Pending.the-variants.{Nothing, In}
+use Rattle.transfer.specs.declared.pending.Landed.{Landed}
 use Rattle.transfer.specs.declared.pending.Landed.the-variants as landed
-use Rattle.transfer.specs.Pending.{numberOf, countdownOf, kindOf, named, pendingOf, screened, landing}
+use Rattle.transfer.specs.Pending.{numberOf, countdownOf, kindOf, named, pendingOf, screened, landing, landedOf}
 
 -- a pending transfer that is written out and read again
 pub kind-read-back : (n : ℕ) (t : Transfer) → 0 < n → pendingOf n (numberOf t) ≡ In n t
@@ -23,6 +24,19 @@ kind-read-back n t h = let some : n ≡ 0 → ⊥ = λ e. omega arith in rw (ne-
     each (BorderTiles false) = refl
     each (BorderTiles true) = refl
     each BorderMap = refl
+
+-- so a number names one kind, and tells what landed
+pub kind-once : (s t : Transfer) → numberOf s ≡ numberOf t → s ≡ t
+kind-once s t e =
+    let q : In 1 s ≡ In 1 t = sym (kind-read-back 1 s (omega arith)) ∙ (ap (pendingOf 1) e ∙ kind-read-back 1 t (omega arith)) in
+    cc
+
+pub landed-once : (l m : Landed) → landedOf l ≡ landedOf m → l ≡ m
+unfolding landedOf
+landed-once landed.Nothing landed.Nothing e = refl
+landed-once landed.Nothing (landed.Page t) e = cc
+landed-once (landed.Page s) landed.Nothing e = cc
+landed-once (landed.Page s) (landed.Page t) e = ap landed.Page (kind-once s t (cc))
 
 -- the two bytes of a valid block (V4), read and written out again
 pub bytes-kept : (n k : ℕ) → 0 < n → k < 5 → (countdownOf (pendingOf n k) ≡ n) × (kindOf (pendingOf n k) ≡ k)

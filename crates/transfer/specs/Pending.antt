@@ -2,6 +2,7 @@
 -- Document 01, The unit block (bytes 10 countdown, 11 transfer kind) and Screens, border and picture.
 use Prim.Native.Nat.{ℕ, _-_}
 use mathlib.Core.Bool.{true, false, cond}
+use mathlib.Core.Option.{Option, none, some}
 use lib.Dec.{eqb, leb}
 use Rattle.transfer.specs.declared.pending.Transfer.{Transfer}
 use Rattle.transfer.specs.declared.pending.Transfer.the-variants.{Palettes, Attributes, BorderTiles, BorderMap}
@@ -49,3 +50,8 @@ screened (In n t) = cond (leb n 1) Nothing (In (n - 1) t)
 unfoldable pub landing : Pending → Landed
 landing Nothing = landed.Nothing
 landing (In n t) = cond (leb n 1) (landed.Page t) landed.Nothing
+
+-- the same by its number
+unfoldable pub landedOf : Landed → Option ℕ
+landedOf landed.Nothing = none
+landedOf (landed.Page t) = some (numberOf t)

@@ -1,14 +1,14 @@
 -- The answers and every lent byte of the calls, case by case: a refusal leaves all as it was, an answer leaves what the worker left.
 use mathlib.Core.Path.{_≡_, refl, sym, ap, _∙_}
-use mathlib.Core.Bool.{true, false, cond}
+use mathlib.Core.Bool.{cond}
 use mathlib.Core.List.{List}
 use mathlib.Core.Option.{Option}
 use Prim.Native.Nat.{ℕ, _<_, _≤_}
 use borrow.Author.Tests.{ne-eqb, eq-eqb, le-leb, lt-leb}
-use lib.Dec.{eqb, leb}
 use lib.ListN.{length}
-use Rattle.pulses.specs.Answer.{Answer, refused, given}
+use Rattle.pulses.specs.Answer.{refused, given}
 use Rattle.transfer.specs.declared.pending.Landed.{Landed}
+use Rattle.transfer.specs.Pending.{landedOf}
 use Rattle.parts.specs.Parts.{blockBytes, storeBytes, captureBytes}
 use Rattle.layout.specs.Block.{load, save}
 use Rattle.layout.specs.Fresh.{new, postBoot}
@@ -16,7 +16,6 @@ use Rattle.layout.specs.Valid.{Valid}
 use Rattle.rules.specs.Write.{written, answer}
 use Rattle.rules.specs.Screen.{screened, landing}
 use Rattle.port.specs.Bytes.{handed}
-use Rattle.view.specs.Drawn.{leaves}
 use Rattle.view.proofs.Refusals.{answers, keeps, draws}
 use Rattle.unit.specs.Calls.{counted, writeAnswer, writeBlock, writeCommand, screenAnswer, screenBlock, freshAnswer, newBlock, postBootBlock}
 
@@ -56,16 +55,16 @@ module _ (b x : List ℕ) where
   pub screen-short : Valid b → (length x ≡ captureBytes → ⊥) → refused 3 ≡ screenAnswer b x
   screen-short k h =
       unfold screenAnswer in
-      sym (ap (λ t. cond t (given (landing (load b .snes))) (refused 3)) (ne-eqb (length x) captureBytes h)) ∙ answers b _ k
+      sym (ap (λ t. cond t (given (landedOf (landing (load b .snes)))) (refused 3)) (ne-eqb (length x) captureBytes h)) ∙ answers b _ k
 
-  screen-is : (l : Landed) → Valid b → length x ≡ captureBytes → l ≡ landing (load b .snes) → given l ≡ screenAnswer b x
+  screen-is : (l : Landed) → Valid b → length x ≡ captureBytes → l ≡ landing (load b .snes) → given (landedOf l) ≡ screenAnswer b x
   screen-is l k h e =
       unfold screenAnswer in
-      ap given e
-      ∙ sym (ap (λ t. cond t (given (landing (load b .snes))) (refused 3)) (eq-eqb (length x) captureBytes h)) ∙ answers b _ k
+      ap (λ n. given (landedOf n)) e
+      ∙ sym (ap (λ t. cond t (given (landedOf (landing (load b .snes)))) (refused 3)) (eq-eqb (length x) captureBytes h)) ∙ answers b _ k
 
   pub screen-given : (l : Landed) (block : List ℕ) → Valid b → length x ≡ captureBytes → l ≡ landing (load b .snes) → block ≡ save (screened (load b) x)
-      → (given l ≡ screenAnswer b x) × (block ≡ screenBlock b x)
+      → (given (landedOf l) ≡ screenAnswer b x) × (block ≡ screenBlock b x)
   screen-given l block k h e p = unfold screenBlock in draws (screenAnswer b x) _ b block (screen-is l k h e) p
 
 -- ---- the fresh blocks

@@ -1,16 +1,68 @@
--- Two outcomes that one contract allows are equal: every lent byte stands in an equation, and what an answer stands for tells the answer.
+-- Two outcomes that one contract allows are equal, for every public call: document 01, What the proofs owe a reader. There are no exceptions.
+-- An outcome is the answer and every lent byte after the call. What a contract tells of it is the call's own `Learnt k a r e`, read by the
+-- compiler off the `ensures` lines: a is the arguments and e the parameters after the call, each in order, r the answer, k the lifetimes.
+-- One law, `one`: a contract tells an answer, or bytes, by an equation, and what is told of one answer is told of no other. That an enum's
+-- cases are told apart stands with the enum: here, in `view` (proofs/Told) and in `pulses` (proofs/Encodes).
 use mathlib.Core.Path.{_≡_, refl, sym, ap, _∙_}
 use mathlib.Core.List.{List}
 use Prim.Native.Nat.{ℕ}
+use denote.Ref.{now}
+use Rattle.colour.specs.declared.Rgb8.{Rgb8}
+use Rattle.pulses.specs.declared.Encoded.{Encoded}
+use Rattle.pulses.specs.declared.Conformance.{Conformance}
+use Rattle.pulses.specs.Answer.{encodedAnswer, verdictAnswer}
+use Rattle.pulses.proofs.Encodes.{one-encoded, one-verdict}
+use Rattle.pulses.proofs.encode.Reads as encode
+use Rattle.pulses.proofs.verdict.Reads as verdict
+use Rattle.screen.proofs.displayed_screen.Reads as displayed-screen
+use Rattle.border.proofs.tile.Reads as tile
+use Rattle.colour.proofs.Rgb555.to_rgb8.Reads as to-rgb8
+use Rattle.view.specs.declared.Number.{Number}
+use Rattle.view.specs.declared.Colour.{Colour}
+use Rattle.view.specs.declared.Entry.{Entry}
+use Rattle.view.specs.declared.Border.{Border}
+use Rattle.view.specs.Answers.{numberTold, colourTold, entryTold, borderTold}
+use Rattle.view.proofs.Told.{one-number, one-colour, one-entry, one-border}
+use Rattle.view.proofs.refusal.Reads as refusal
+use Rattle.view.proofs.mask_mode.Reads as mask-mode
+use Rattle.view.proofs.backdrop.Reads as backdrop
+use Rattle.view.proofs.color_at.Reads as color-at
+use Rattle.view.proofs.map_entry.Reads as map-entry
+use Rattle.view.proofs.border_color_at.Reads as border-color-at
+use Rattle.view.proofs.row.Reads as row
+use Rattle.view.proofs.picture.Reads as picture
 use Rattle.unit.specs.declared.Written.{Written}
 use Rattle.unit.specs.declared.Written.the-variants as W
 use Rattle.unit.specs.declared.Shown.{Shown}
 use Rattle.unit.specs.declared.Shown.the-variants as S
 use Rattle.unit.specs.Answers.{writtenTold, shownTold}
-use Rattle.unit.specs.Calls.{writeAnswer, writeBlock, writeCommand, screenAnswer, screenBlock, freshAnswer, newBlock, postBootBlock}
-use Rattle.view.specs.Refusal.{refusalOf}
+use Rattle.transfer.proofs.Pendings.{landed-once}
+use Rattle.unit.proofs.write_joypad.Reads as write-joypad
+use Rattle.unit.proofs.update_screen.Reads as update-screen
+use Rattle.unit.proofs.new.Reads as new
+use Rattle.unit.proofs.post_boot.Reads as post-boot
+use Rattle.unit.proofs.check.Reads as check
 
-one-written : (r s : Written) → writtenTold r ≡ writtenTold s → r ≡ s
+-- ---- the law
+
+-- what is told of an answer is told of no other
+abbrev pub Told : {R A : Type 0} → (R → A) → Type 0
+Told {R} told = (r s : R) → told r ≡ told s → r ≡ s
+
+pub one : {R A : Type 0} {due : A} (told : R → A) → Told told → (r s : R) → told r ≡ due → told s ≡ due → r ≡ s
+one told once r s p q = once r s (p ∙ sym q)
+
+-- a number, bytes, or a colour that a contract names outright
+pub same : {A : Type 0} {due : A} (r s : A) → r ≡ due → s ≡ due → r ≡ s
+same {A} = one (λ (x : A). x) (λ r s e. e)
+
+-- of the answers r and exits e that a contract allows for the arguments a, any two are the same outcome
+abbrev pub Determined : (O : Type 0) {A R E : Type 0} → (A → R → E → Type 0) → (R → E → O) → Type 0
+Determined O {A} {R} {E} allows outcome = (a : A) (r s : R) (e f : E) → allows a r e → allows a s f → outcome r e ≡ outcome s f
+
+-- ---- the enums of this crate
+
+one-written : Told writtenTold
 unfolding writtenTold
 one-written (W.Refused m) (W.Refused n) e = cc
 one-written (W.Refused m) W.Nothing e = cc
@@ -22,30 +74,71 @@ one-written (W.Command m) (W.Refused n) e = cc
 one-written (W.Command m) W.Nothing e = cc
 one-written (W.Command m) (W.Command n) e = cc
 
-one-shown : (r s : Shown) → shownTold r ≡ shownTold s → r ≡ s
+one-shown : Told shownTold
 unfolding shownTold
 one-shown (S.Refused m) (S.Refused n) e = cc
 one-shown (S.Refused m) (S.Took n) e = cc
 one-shown (S.Took m) (S.Refused n) e = cc
-one-shown (S.Took m) (S.Took n) e = cc
+one-shown (S.Took m) (S.Took n) e = ap S.Took (landed-once m n (cc))
 
--- an outcome of a write that the contract of `write_joypad` allows
-pub record Writes (b : List ℕ) (v : ℕ) (command : List ℕ) (r : Written) (block buffer : List ℕ) : Type 0 where
-  pub answer : writtenTold r ≡ writeAnswer b v command
-  pub leaves : block ≡ writeBlock b v command
-  pub hands : buffer ≡ writeCommand b v command
+-- ---- each call, in the order of docs/PROOFS.md
 
-pub write-determined : {b command : List ℕ} {v : ℕ} {r s : Written} {x y p q : List ℕ} → Writes b v command r x p → Writes b v command s y q → (r ≡ s) × ((x ≡ y) × (p ≡ q))
-write-determined {r} {s} a c = (one-written r s (a .answer ∙ sym (c .answer)), (a .leaves ∙ sym (c .leaves), a .hands ∙ sym (c .hands)))
+-- the answer, the block, the buffer
+pub write-joypad-determined : (k : _) → Determined (Written × List ℕ × List ℕ) (write-joypad.Learnt k) (λ r e. (r, now (e .0), now (e .1 .1 .0)))
+write-joypad-determined k a r s e f p q = λ t. (one writtenTold one-written r s (p .0) (q .0) t, same _ _ (p .1 .0) (q .1 .0) t, same _ _ (p .1 .1) (q .1 .1) t)
 
--- one of a screen that the contract of `update_screen` allows
-pub record Shows (b screen : List ℕ) (r : Shown) (block : List ℕ) : Type 0 where
-  pub answer : shownTold r ≡ screenAnswer b screen
-  pub leaves : block ≡ screenBlock b screen
+-- the answer, the block
+pub update-screen-determined : (k : _) → Determined (Shown × List ℕ) (update-screen.Learnt k) (λ r e. (r, now (e .0)))
+update-screen-determined k a r s e f p q = λ t. (one shownTold one-shown r s (p .0) (q .0) t, same _ _ (p .1) (q .1) t)
 
-pub screen-determined : {b screen x y : List ℕ} {r s : Shown} → Shows b screen r x → Shows b screen s y → (r ≡ s) × (x ≡ y)
-screen-determined {r} {s} a c = (one-shown r s (a .answer ∙ sym (c .answer)), a .leaves ∙ sym (c .leaves))
+pub new-determined : (k : _) → Determined (ℕ × List ℕ) (new.Learnt k) (λ r e. (r, now (e .0)))
+new-determined k a r s e f p q = λ t. (same r s (p .0) (q .0) t, same _ _ (p .1) (q .1) t)
 
--- `new`, `post_boot` and `check` answer a number and leave bytes, each told outright
-pub told-determined : {A : Type 0} {r s told : A} → r ≡ told → s ≡ told → r ≡ s
-told-determined a c = a ∙ sym c
+pub post-boot-determined : (k : _) → Determined (ℕ × List ℕ) (post-boot.Learnt k) (λ r e. (r, now (e .0)))
+post-boot-determined k a r s e f p q = λ t. (same r s (p .0) (q .0) t, same _ _ (p .1) (q .1) t)
+
+-- the answer alone: nothing is lent to be written
+pub check-determined : (k : _) → Determined ℕ (check.Learnt k) (λ r e. r)
+check-determined k a r s e f p q = same r s p q
+
+pub refusal-determined : (k : _) → Determined ℕ (refusal.Learnt k) (λ r e. r)
+refusal-determined k a r s e f p q = same r s p q
+
+pub mask-mode-determined : (k : _) → Determined Number (mask-mode.Learnt k) (λ r e. r)
+mask-mode-determined k a r s e f p q = one numberTold one-number r s p q
+
+pub backdrop-determined : (k : _) → Determined Colour (backdrop.Learnt k) (λ r e. r)
+backdrop-determined k a r s e f p q = one colourTold one-colour r s p q
+
+pub color-at-determined : (k : _) → Determined Colour (color-at.Learnt k) (λ r e. r)
+color-at-determined k a r s e f p q = one colourTold one-colour r s p q
+
+pub map-entry-determined : (k : _) → Determined Entry (map-entry.Learnt k) (λ r e. r)
+map-entry-determined k a r s e f p q = one entryTold one-entry r s p q
+
+pub border-color-at-determined : (k : _) → Determined Border (border-color-at.Learnt k) (λ r e. r)
+border-color-at-determined k a r s e f p q = one borderTold one-border r s p q
+
+-- the answer, the output
+pub row-determined : (k : _) → Determined (Number × List ℕ) (row.Learnt k) (λ r e. (r, now (e .1 .1 .0)))
+row-determined k a r s e f p q = λ t. (one numberTold one-number r s (p .0) (q .0) t, same _ _ (p .1) (q .1) t)
+
+pub picture-determined : (k : _) → Determined (Number × List ℕ) (picture.Learnt k) (λ r e. (r, now (e .1 .0)))
+picture-determined k a r s e f p q = λ t. (one numberTold one-number r s (p .0) (q .0) t, same _ _ (p .1) (q .1) t)
+
+-- the colour
+pub to-rgb8-determined : (k : _) → Determined Rgb8 (to-rgb8.Learnt k) (λ r e. r)
+to-rgb8-determined k a r s e f p q = same r s p q
+
+-- the bytes of the part that is handed back
+pub displayed-screen-determined : (k : _) → Determined (List ℕ) (displayed-screen.Learnt k) (λ r e. now r)
+displayed-screen-determined k a r s e f p q = same _ _ p q
+
+pub tile-determined : (k : _) → Determined (List ℕ) (tile.Learnt k) (λ r e. now r)
+tile-determined k a r s e f p q = same _ _ p q
+
+pub encode-determined : (k : _) → Determined (Encoded × List ℕ) (encode.Learnt k) (λ r e. (r, now (e .1 .0)))
+encode-determined k a r s e f p q = λ t. (one encodedAnswer one-encoded r s (p .answer) (q .answer) t, same _ _ (p .output) (q .output) t)
+
+pub verdict-determined : (k : _) → Determined Conformance (verdict.Learnt k) (λ r e. r)
+verdict-determined k a r s e f p q = one verdictAnswer one-verdict r s (p .answer) (q .answer)

@@ -4,13 +4,13 @@ use Prim.Native.Nat.{ℕ, _≤_}
 use native.Mathlib.Omega.{arith}
 use mathlib.Core.Path.{_≡_, refl, sym, ap, _∙_}
 use mathlib.Core.Bool.{Bool, true, false, cond}
-use mathlib.Core.List.{List, [], _∷_, _++_, map}
+use mathlib.Core.List.{List, [], _∷_, map}
 use mathlib.Core.Option.{Option, none, some}
 use borrow.Author.Tests.{eqb-true, le-leb}
-use lib.Dec.{leb, eqb}
-use lib.ListN.{length, drop, length-append, length-drop}
+use lib.Dec.{eqb}
+use lib.ListN.{length, length-append, length-drop}
 use Rattle.pulses.specs.Answer.{Answer, refused, given}
-use Rattle.transfer.specs.declared.pending.Landed.{Landed}
+use Rattle.transfer.specs.Pending.{landedOf}
 use Rattle.parts.specs.Parts.{storeBytes, captureBytes}
 use Rattle.layout.specs.Block.{load, save}
 use Rattle.layout.specs.Valid.{valid, Valid}
@@ -18,14 +18,13 @@ use Rattle.layout.proofs.Saved.{clauses}
 use Rattle.layout.proofs.Goods.{valid-good, good-valid}
 use Rattle.rules.specs.Write.{written, answer}
 use Rattle.rules.specs.Screen.{screened, landing}
-use Rattle.rules.proofs.Keeps.{WholeIf, Whole, answered-whole, good-written, good-screened}
+use Rattle.rules.proofs.Keeps.{WholeIf, answered-whole, good-written, good-screened}
 use Rattle.order.specs.Log.{Event, write, screen, accepts, Seen, seen, Aligned}
 use Rattle.order.specs.Log as log
 use Rattle.order.specs.Blocks.{Called, calledWrite, calledScreen, writtenBlock, seenBlock, calls}
 use Rattle.order.proofs.BlockOrder.{block-order}
 use Rattle.port.specs.Bytes.{handed}
 use Rattle.view.specs.Drawn.{leaves}
-use Rattle.view.specs.Refusal.{refusing}
 use Rattle.view.proofs.Refusals.{answers}
 use Rattle.unit.specs.Calls.{counted, writeAnswer, writeBlock, writeCommand, screenAnswer, screenBlock}
 use Rattle.unit.specs.Together.{Done, doneWrite, doneScreen, performed}
@@ -41,15 +40,15 @@ write-taken b v buffer k h =
     sym (answers b _ (held b k)) ∙ ap (λ t. cond t (given (counted (answer (load b) v))) (refused 6)) (le-leb storeBytes (length buffer) h)
 
 -- what a screen answers, of a valid block
-sightOf : Seen → Answer Landed
+sightOf : Seen → Answer (Option ℕ)
 sightOf (log.refused n) = refused n
-sightOf (log.took l) = given l
+sightOf (log.took l) = given (landedOf l)
 
 screen-taken : (b x : List ℕ) → valid b ≡ true → screenAnswer b x ≡ sightOf (seen (load b .snes) x)
 unfolding screenAnswer seen accepts
 screen-taken b x k = sym (answers b _ (held b k)) ∙ go (eqb (length x) captureBytes)
   where
-    go : (t : Bool) → cond t (given (landing (load b .snes))) (refused 3) ≡ sightOf (cond t (log.took (landing (load b .snes))) (log.refused 3))
+    go : (t : Bool) → cond t (given (landedOf (landing (load b .snes)))) (refused 3) ≡ sightOf (cond t (log.took (landing (load b .snes))) (log.refused 3))
     go true = unfold sightOf in refl
     go false = unfold sightOf in refl
 
@@ -57,7 +56,7 @@ screen-left : (b x : List ℕ) → valid b ≡ true → screenBlock b x ≡ seen
 unfolding screenBlock seenBlock screenAnswer accepts
 screen-left b x k = ap (λ a. leaves a (save (screened (load b) x)) b) (sym (answers b _ (held b k))) ∙ go (eqb (length x) captureBytes)
   where
-    go : (t : Bool) → leaves (cond t (given (landing (load b .snes))) (refused 3)) (save (screened (load b) x)) b ≡ cond t (save (screened (load b) x)) b
+    go : (t : Bool) → leaves (cond t (given (landedOf (landing (load b .snes)))) (refused 3)) (save (screened (load b) x)) b ≡ cond t (save (screened (load b) x)) b
     go true = unfold leaves in refl
     go false = unfold leaves in refl
 

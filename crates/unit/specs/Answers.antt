@@ -2,7 +2,7 @@
 use Prim.Native.Nat.{ℕ}
 use mathlib.Core.Option.{Option, none, some}
 use Rattle.pulses.specs.Answer.{Answer, refused, given}
-use Rattle.transfer.specs.declared.pending.Landed.{Landed}
+use Rattle.transfer.specs.Pending.{landedOf}
 use Rattle.unit.specs.declared.Written.{Written}
 use Rattle.unit.specs.declared.Written.the-variants as W
 use Rattle.unit.specs.declared.Shown.{Shown}
@@ -14,6 +14,7 @@ writtenTold (W.Refused n) = refused n
 writtenTold W.Nothing = given none
 writtenTold (W.Command n) = given (some n)
 
-unfoldable pub shownTold : Shown → Answer Landed
+-- of a screen: the number of the kind that landed, or none
+unfoldable pub shownTold : Shown → Answer (Option ℕ)
 shownTold (S.Refused n) = refused n
-shownTold (S.Took l) = given l
+shownTold (S.Took l) = given (landedOf l)

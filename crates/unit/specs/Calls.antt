@@ -8,7 +8,7 @@ use mathlib.Core.Option.{Option, none, some}
 use lib.Dec.{eqb, leb}
 use lib.ListN.{length}
 use Rattle.pulses.specs.Answer.{Answer, refused, given}
-use Rattle.transfer.specs.declared.pending.Landed.{Landed}
+use Rattle.transfer.specs.Pending.{landedOf}
 use Rattle.parts.specs.Parts.{blockBytes, storeBytes, captureBytes}
 use Rattle.layout.specs.Block.{load, save}
 use Rattle.layout.specs.Fresh.{new, postBoot}
@@ -36,8 +36,8 @@ writeCommand b v command = leaves (writeAnswer b v command) (handed (answer (loa
 
 -- ---- a screen: refusals 1, 2, 3
 
-unfoldable pub screenAnswer : List ℕ → List ℕ → Answer Landed
-screenAnswer b x = refusing b (cond (eqb (length x) captureBytes) (given (landing (load b .snes))) (refused 3))
+unfoldable pub screenAnswer : List ℕ → List ℕ → Answer (Option ℕ)
+screenAnswer b x = refusing b (cond (eqb (length x) captureBytes) (given (landedOf (landing (load b .snes)))) (refused 3))
 
 unfoldable pub screenBlock : List ℕ → List ℕ → List ℕ
 screenBlock b x = leaves (screenAnswer b x) (save (screened (load b) x)) b

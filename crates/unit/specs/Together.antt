@@ -3,7 +3,6 @@ use Prim.Native.Nat.{ℕ}
 use mathlib.Core.List.{List, [], _∷_}
 use mathlib.Core.Option.{Option}
 use Rattle.pulses.specs.Answer.{Answer}
-use Rattle.transfer.specs.declared.pending.Landed.{Landed}
 use Rattle.order.specs.Log.{Event, write, screen}
 use Rattle.unit.specs.Calls.{writeAnswer, writeBlock, writeCommand, screenAnswer, screenBlock}
 
@@ -12,12 +11,12 @@ pub record Done : Type 0 where
   pub block : List ℕ
   pub buffer : List ℕ
   pub answers : List (Answer (Option ℕ))
-  pub sights : List (Answer Landed)
+  pub sights : List (Answer (Option ℕ))
 
 unfoldable pub doneWrite : Answer (Option ℕ) → Done → Done
 doneWrite a o = record { block = o .block; buffer = o .buffer; answers = a ∷ o .answers; sights = o .sights }
 
-unfoldable pub doneScreen : Answer Landed → Done → Done
+unfoldable pub doneScreen : Answer (Option ℕ) → Done → Done
 doneScreen a o = record { block = o .block; buffer = o .buffer; answers = o .answers; sights = a ∷ o .sights }
 
 unfoldable pub performed : List ℕ → List ℕ → List Event → Done

@@ -1,4 +1,4 @@
 pub mod Refusals
 pub mod Lent
-pub mod Determined
+pub mod Told
 pub mod Alone

@@ -1,8 +1,7 @@
--- The refusals that every call over a block gives first. Document 01, Refusals by number: "1 block length is not 30,020; 2 block is not
--- valid .. The lowest number wins."
+-- The refusals that every call over a block gives first. Document 01, Refusals by number: 1 if the block's length is not 30,020,
+-- 2 if the block is not valid; the lowest number wins.
 use Prim.Native.Nat.{ℕ}
-use mathlib.Core.Path.{_≡_}
-use mathlib.Core.Bool.{true, cond}
+use mathlib.Core.Bool.{cond}
 use mathlib.Core.List.{List}
 use lib.Dec.{eqb}
 use lib.ListN.{length}

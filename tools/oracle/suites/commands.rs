@@ -1,6 +1,7 @@
 //! What each command does, held to the Rust: a block whose receiver has all of a command but its stop pulse, then that
-//! pulse. The port's side is its decoding and its effect on each part; every byte of the block is compared.
+//! pulse. The port's side is the whole unit, and beside it the decoding and the effect on each part; every byte of the block is compared.
 
+use super::unit::{COMMAND_LEN, write_joypad};
 use crate::block::{self, *};
 use crate::ctx::Ctx;
 use crate::generate;
@@ -11,8 +12,6 @@ use crate::valid;
 
 unsafe extern "C" {
     safe fn probe_mlt_req(index: u8, d1: u8) -> u16;
-    safe fn probe_mask_en(d1: u8) -> u16;
-    safe fn probe_cancel(mode: u8, frozen: bool, flags: u8) -> u16;
     // a slice is a pointer and a length; lengths as document 01 has them
     fn probe_decode(d: *const u8, len: usize) -> u16;
     fn probe_attr_blk(map: *mut u8, n: usize, d: *const u8, len: usize);
@@ -58,7 +57,14 @@ fn one(ctx: &mut Ctx, d: Vec<u8>) {
             Some(answer) if answer == d.0 => {}
             other => return Err(format!("the Rust answers {other:X?}")),
         }
-        block::difference(&carried_out(&before, &d.0), &rust.save())
+        let rust = rust.save();
+        let (mut unit, mut out) = (before.clone(), [0; COMMAND_LEN]);
+        let packets = write_joypad(&mut unit, STOP, &mut out) as usize;
+        if 16 * packets != d.0.len() || out[..d.0.len()] != d.0 {
+            return Err(format!("the unit answers {packets:X} packets, {out:X?}"));
+        }
+        block::difference(&unit, &rust)?;
+        block::difference(&carried_out(&before, &d.0, &unit), &rust)
     });
 }
 
@@ -110,8 +116,8 @@ fn all_but_the_stop(b: &[u8], d: &[u8]) -> Vec<u8> {
     b
 }
 
-/// The block after the stop pulse: an idle receiver, and what the port says of the command.
-fn carried_out(before: &[u8], d: &[u8]) -> Vec<u8> {
+/// The block after the stop pulse: an idle receiver, and what the port's parts say of the command. The mask is told by no part but the unit.
+fn carried_out(before: &[u8], d: &[u8], unit: &[u8]) -> Vec<u8> {
     let mut b = before.to_vec();
     b[LINES_HIGH] = 0;
     b[RECEIVER..=BIT_INDEX].fill(0);
@@ -134,7 +140,7 @@ fn carried_out(before: &[u8], d: &[u8]) -> Vec<u8> {
                 let pads = probe_mlt_req(b[JOYPAD_INDEX], d[1]);
                 [b[JOYPAD_INDEX], b[JOYPAD_MASK]] = pads.to_le_bytes();
             }
-            0x90 | 0x120 => set_mask(&mut b, probe_mask_en(d[1])),
+            0x90 | 0x120 => mask_of(unit, &mut b),
             0xA0 => {}
             0x100 => {
                 end_preset(&mut b);
@@ -143,14 +149,12 @@ fn carried_out(before: &[u8], d: &[u8]) -> Vec<u8> {
                 probe_pal_set(palettes, 32, system.as_ptr(), system.len(), at, len);
                 let files = b[FILES].to_vec();
                 probe_pal_set_map(map, 90, files.as_ptr(), files.len(), d[9]);
-                let mask = probe_cancel(b[MASK], b[FROZEN_PRESENT] == 1, d[9]);
-                [b[MASK], b[FROZEN_PRESENT]] = mask.to_le_bytes();
+                mask_of(unit, &mut b);
             }
             0x110 => {
                 let files = b[FILES].to_vec();
                 probe_attr_set_map(map, 90, files.as_ptr(), files.len(), d[1]);
-                let mask = probe_cancel(b[MASK], b[FROZEN_PRESENT] == 1, d[1]);
-                [b[MASK], b[FROZEN_PRESENT]] = mask.to_le_bytes();
+                mask_of(unit, &mut b);
             }
             transfer => [b[COUNTDOWN], b[KIND]] = [3, (transfer & 15) as u8],
         }
@@ -163,14 +167,11 @@ fn end_preset(b: &mut [u8]) {
     b[PRESET].fill(0);
 }
 
-/// MASK_EN: a freeze takes the live capture, every other mode drops the frozen one.
-fn set_mask(b: &mut [u8], mask: u16) {
-    [b[MASK], b[FROZEN_PRESENT]] = mask.to_le_bytes();
-    if b[FROZEN_PRESENT] == 1 {
-        b.copy_within(LIVE, FROZEN.start);
-    } else {
-        b[FROZEN].fill(0);
-    }
+/// The mask mode and the frozen capture.
+fn mask_of(unit: &[u8], b: &mut [u8]) {
+    b[MASK] = unit[MASK];
+    b[FROZEN_PRESENT] = unit[FROZEN_PRESENT];
+    b[FROZEN].copy_from_slice(&unit[FROZEN]);
 }
 
 /// MASK_EN and ATTR_SET at every byte, PAL_SET at every d9.

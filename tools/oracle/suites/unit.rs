@@ -25,7 +25,7 @@ unsafe extern "C" {
 const REFUSED: u32 = 0x100;
 /// The answer to a screen at which no transfer lands.
 const NOTHING: u32 = 0xFF;
-const COMMAND_LEN: usize = 112;
+pub const COMMAND_LEN: usize = 112;
 
 pub fn run(ctx: &mut Ctx) {
     fresh(ctx);
@@ -35,7 +35,7 @@ pub fn run(ctx: &mut Ctx) {
     damaged_blocks(ctx);
 }
 
-fn write_joypad(b: &mut [u8], value: u8, out: &mut [u8]) -> u32 {
+pub fn write_joypad(b: &mut [u8], value: u8, out: &mut [u8]) -> u32 {
     unsafe { probe_write_joypad(b.as_mut_ptr(), b.len(), value, out.as_mut_ptr(), out.len()) }
 }
 

@@ -2,20 +2,20 @@
 use Prim.Native.Nat.{_-_, _≤_}
 use native.Mathlib.Omega.{arith}
 use borrow.Author.Needs.{needs}
-use Rattle.attribute_map.specs.Map.{pairAt, unpack}
+use Rattle.attribute_map.specs.Map.{packedCell, unpack}
 use Rattle.attribute_map.proofs.Painting.{Painting, painting-none, painting-turn, painting-row, painting-all}
 use Rattle.attribute_map.proofs.Sizes.{sized}
 use Rattle.attribute_map.proofs.fill.Statement.{statement}
 use Rattle.attribute_map.proofs.fill.Tie as tie
 
 abbrev Inv-loop2 : tie.InvT-loop2
-Inv-loop2 bytes m₀ y x₀ m x = (x ≤ 20) × Painting (pairAt bytes) m y x
+Inv-loop2 bytes m₀ y x₀ m x = (x ≤ 20) × Painting (packedCell bytes) m y x
 
 abbrev μ-loop2 : tie.MeasureT-loop2
 μ-loop2 bytes m₀ y x₀ m x = 20 - x
 
 abbrev Inv-loop : tie.InvT-loop
-Inv-loop bytes m₀ y₀ m y = (y ≤ 18) × Painting (pairAt bytes) m y 0
+Inv-loop bytes m₀ y₀ m y = (y ≤ 18) × Painting (packedCell bytes) m y 0
 
 abbrev μ-loop : tie.MeasureT-loop
 μ-loop bytes m₀ y₀ m y = 18 - y

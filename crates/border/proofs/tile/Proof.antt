@@ -3,6 +3,7 @@ use mathlib.Core.Path.{refl}
 use native.Mathlib.Nat.{add-sub-cancel-left}
 use borrow.Author.Tests.{eq-eqb, ne-eqb, le-leb, lt-leb}
 use borrow.Author.Needs.{needs}
+use Rattle.parts.specs.Parts.{tilesBytes}
 use Rattle.border.specs.Tile.{tilePart}
 use Rattle.border.proofs.tile.Statement.{statement}
 use Rattle.border.proofs.tile.Tie as tie
@@ -12,14 +13,14 @@ slice-aggregate-result c = search needs
 
 returns : tie.Need-returns
 unfolding tilePart
-returns c = simp (ne-eqb _ 8192 (c .before .if1 .taken))
+returns c = simp (ne-eqb _ tilesBytes (c .before .if1 .taken))
 
 slice-aggregate-result-2 : tie.Need-slice-aggregate-result-2
 slice-aggregate-result-2 c = search needs
 
 returns-2 : tie.Need-returns-2
 unfolding tilePart
-returns-2 c = simp (eq-eqb _ 8192 (c .before .before .if1 .left), lt-leb _ 255 (c .before .if2 .taken))
+returns-2 c = simp (eq-eqb _ tilesBytes (c .before .before .if1 .left), lt-leb _ 255 (c .before .if2 .taken))
 
 mul-at : tie.Need-mul-at
 mul-at c = search needs
@@ -38,7 +39,7 @@ part-result-end c = search needs
 
 returns-3 : tie.Need-returns-3
 unfolding tilePart
-returns-3 c = simp (eq-eqb _ 8192 (c .before .before .if1 .left), le-leb _ 255 (c .before .if2 .left), add-sub-cancel-left) refl
+returns-3 c = simp (eq-eqb _ tilesBytes (c .before .before .if1 .left), le-leb _ 255 (c .before .if2 .left), add-sub-cancel-left) refl
 
 pub tile-spec : {M : Type 1} → statement M
 tile-spec =

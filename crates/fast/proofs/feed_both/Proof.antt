@@ -2,7 +2,6 @@
 use borrow.Author.Needs.{needs}
 use Rattle.fast.proofs.Passes.{then}
 use mathlib.Core.Bool.{true}
-use mathlib.Core.Path.{_∙_}
 use Rattle.fast.proofs.feed_both.Statement.{statement}
 use Rattle.fast.proofs.feed_both.Tie as tie
 

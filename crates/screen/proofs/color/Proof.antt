@@ -2,7 +2,7 @@
 use mathlib.Core.Path.{_∙_}
 use borrow.Author.Needs.{needs}
 use Rattle.bits.specs.Word.{wordAt}
-use Rattle.screen.specs.Colours.{colourOf}
+use Rattle.screen.specs.Colours.{paletteColour}
 use Rattle.screen.proofs.color.Statement.{statement}
 use Rattle.screen.proofs.color.Tie as tie
 
@@ -22,7 +22,7 @@ from-bytes-requires : tie.Need-from-bytes-requires
 from-bytes-requires c κs = search needs
 
 returns : tie.Need-returns
-unfolding colourOf wordAt
+unfolding paletteColour wordAt
 returns c = c .from-bytes .ensures ∙ rw (c .before .before .before .if1 .taken)
 
 mul-at-2 : tie.Need-mul-at-2
@@ -47,7 +47,7 @@ from-bytes-requires-2 : tie.Need-from-bytes-requires-2
 from-bytes-requires-2 c κs = search needs
 
 returns-2 : tie.Need-returns-2
-unfolding colourOf wordAt
+unfolding paletteColour wordAt
 returns-2 c = c .from-bytes2 .ensures ∙ rw (c .before .before .before .if1 .left)
 
 pub color-spec : {M : Type 1} → statement M

@@ -1,7 +1,6 @@
 -- `unit::carry` meets its contract: the part that is lent is the command of n packets.
 use Prim.Native.Nat.{ℕ, _-_, _*_}
-use mathlib.Core.Path.{_≡_, _∙_, ap, subst, sym}
-use mathlib.Core.List.{List}
+use mathlib.Core.Path.{_≡_, _∙_, ap, subst}
 use native.Mathlib.Omega.{arith}
 use borrow.Author.Needs.{needs}
 use lib.ListN.{take}

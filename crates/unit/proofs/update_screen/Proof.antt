@@ -1,5 +1,4 @@
 -- `unit::update_screen` meets its contract: the refusals in their order, and else the worker.
-use native.Mathlib.Omega.{arith}
 use borrow.Author.Needs.{needs}
 use Rattle.view.proofs.Refusals.{refuses, accepts}
 use Rattle.unit.specs.Answers.{shownTold}

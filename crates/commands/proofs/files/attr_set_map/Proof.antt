@@ -7,7 +7,7 @@ use borrow.Author.Needs.{needs}
 use lib.ListN.{length}
 use lib.Bits.{and-mask}
 use Rattle.parts.specs.Parts.{mapBytes}
-use Rattle.bits.specs.Over.{part, over}
+use Rattle.bits.specs.Over.{part}
 use Rattle.bits.proofs.Overs.{length-part}
 use Rattle.commands.specs.Files.{fileCount, fileOf, attrSetMap}
 use Rattle.bits.proofs.Overs.{over-all}

@@ -1,7 +1,8 @@
 -- Each case is its own.
 use borrow.Author.Needs.{needs}
 use mathlib.Core.Path.{ap, _∙_}
-use Rattle.export.specs.Coded.{landed, value}
+use Rattle.transfer.specs.Pending.{landedOf}
+use Rattle.export.specs.Coded.{value, optional}
 use Rattle.export.proofs.answers.of_landed.Statement.{statement}
 use Rattle.export.proofs.answers.of_landed.Tie as tie
 
@@ -21,11 +22,11 @@ value-requires : tie.Need-value-requires
 value-requires c κs = search needs
 
 returns : tie.Need-returns
-unfolding landed
+unfolding optional landedOf
 returns c = rw (c .enum-told .given .1)
 
 returns-2 : tie.Need-returns-2
-unfolding landed
+unfolding optional landedOf
 returns-2 c = rw (c .before .before .before .l .given .1) (c .value .ensures ∙ ap value (c .before .number .ensures))
 
 pub of-landed-spec : {M : Type 1} → statement M

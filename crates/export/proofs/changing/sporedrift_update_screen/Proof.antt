@@ -1,7 +1,7 @@
 -- What the call tells, as a number.
 use borrow.Author.Needs.{needs}
 use mathlib.Core.Path.{ap, _∙_}
-use Rattle.export.specs.Coded.{coded, landed}
+use Rattle.export.specs.Coded.{coded, optional}
 use Rattle.export.proofs.changing.sporedrift_update_screen.Statement.{statement}
 use Rattle.export.proofs.changing.sporedrift_update_screen.Tie as tie
 
@@ -15,7 +15,7 @@ same-length : tie.Need-same-length
 same-length c = search needs
 
 returns : tie.Need-returns
-returns c = let s = c .before .before .before .update-screen in (c .of-shown .ensures ∙ ap (coded landed) (s .ensures .0), s .ensures .1)
+returns c = let s = c .before .before .before .update-screen in (c .of-shown .ensures ∙ ap (coded optional) (s .ensures .0), s .ensures .1)
 
 pub sporedrift-update-screen-spec : {M : Type 1} → statement M
 sporedrift-update-screen-spec = tie.close (tie.spec update-screen-requires of-shown-requires same-length returns)

@@ -10,7 +10,7 @@ use lib.ListN.{length, take, drop, length-take, length-drop}
 use Rattle.receiver.specs.Port.{Port}
 use Rattle.receiver.specs.Receive.{Sound}
 use Rattle.receiver.proofs.Sound.{sound-idle}
-use Rattle.run.specs.Run.{Ended, runs, portOf, endedOf, Ready}
+use Rattle.run.specs.Run.{Ended, runs, portOf, Ready}
 use Rattle.run.proofs.Hears.{ready-runs, at-most, at-least}
 use Rattle.probe.proofs.logs.probe_log.Statement.{statement}
 use Rattle.probe.proofs.logs.probe_log.Tie as tie

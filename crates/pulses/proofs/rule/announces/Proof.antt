@@ -13,12 +13,12 @@ shared-slice-read-wide c = search needs
 wide-requires : tie.Need-wide-requires
 wide-requires c κs = search needs
 
-within-requires : tie.Need-within-requires
-within-requires c κs = search needs
+one-to-requires : tie.Need-one-to-requires
+one-to-requires c κs = search needs
 
 returns : tie.Need-returns
 unfolding announces
-returns c = c .within .ensures ∙ rw (c .before .wide .ensures .0, eq-eqb _ _ (c .before .before .before .if1 .taken))
+returns c = c .one-to .ensures ∙ rw (c .before .wide .ensures .0, eq-eqb _ _ (c .before .before .before .if1 .taken))
 
 shared-slice-read-wide-2 : tie.Need-shared-slice-read-wide-2
 shared-slice-read-wide-2 c = search needs
@@ -26,12 +26,12 @@ shared-slice-read-wide-2 c = search needs
 wide-requires-2 : tie.Need-wide-requires-2
 wide-requires-2 c κs = search needs
 
-within-requires-2 : tie.Need-within-requires-2
-within-requires-2 c κs = search needs
+one-to-requires-2 : tie.Need-one-to-requires-2
+one-to-requires-2 c κs = search needs
 
 returns-2 : tie.Need-returns-2
 unfolding announces
-returns-2 c = c .within2 .ensures ∙ rw (c .before .wide2 .ensures .0, ne-eqb _ _ (c .before .before .before .before .if1 .left), eq-eqb _ _ (c .before .before .before .if2 .taken))
+returns-2 c = c .one-to2 .ensures ∙ rw (c .before .wide2 .ensures .0, ne-eqb _ _ (c .before .before .before .before .if1 .left), eq-eqb _ _ (c .before .before .before .if2 .taken))
 
 shared-slice-read-word : tie.Need-shared-slice-read-word
 shared-slice-read-word c = search needs
@@ -42,15 +42,15 @@ shared-slice-read-word-2 c = search needs
 word-requires : tie.Need-word-requires
 word-requires c κs = search needs
 
-cast-within : tie.Need-cast-within
-cast-within c = search needs
+cast-one-to : tie.Need-cast-one-to
+cast-one-to c = search needs
 
-within-requires-3 : tie.Need-within-requires-3
-within-requires-3 c κs = search needs
+one-to-requires-3 : tie.Need-one-to-requires-3
+one-to-requires-3 c κs = search needs
 
 returns-3 : tie.Need-returns-3
 unfolding announces wordAt
-returns-3 c = c .within3 .ensures ∙ rw (c .before .word .ensures, ne-eqb _ _ (c .before .before .before .before .before .before .if1 .left), ne-eqb _ _ (c .before .before .before .before .before .if2 .left), eq-eqb _ _ (c .before .before .before .before .if3 .taken))
+returns-3 c = c .one-to3 .ensures ∙ rw (c .before .word .ensures, ne-eqb _ _ (c .before .before .before .before .before .before .if1 .left), ne-eqb _ _ (c .before .before .before .before .before .if2 .left), eq-eqb _ _ (c .before .before .before .before .if3 .taken))
 
 returns-4 : tie.Need-returns-4
 unfolding announces
@@ -62,16 +62,16 @@ announces-spec =
     (tie.spec
     shared-slice-read-wide
     wide-requires
-    within-requires
+    one-to-requires
     returns
     shared-slice-read-wide-2
     wide-requires-2
-    within-requires-2
+    one-to-requires-2
     returns-2
     shared-slice-read-word
     shared-slice-read-word-2
     word-requires
-    cast-within
-    within-requires-3
+    cast-one-to
+    one-to-requires-3
     returns-3
     returns-4)

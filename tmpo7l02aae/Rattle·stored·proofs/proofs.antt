@@ -1,7 +1,0 @@
-mod chance
-mod digest
-mod looks
-mod main
-mod rounds
-mod screens
-mod writes

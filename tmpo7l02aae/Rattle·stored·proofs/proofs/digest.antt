@@ -1,4 +1,0 @@
-pub mod bytes
-pub mod number
-mod wide
-pub mod words

@@ -1,2 +1,0 @@
-pub use Rattle.stored.proofs.digest.bytes.Code.{routine}
-pub use Rattle.stored.proofs.digest.bytes.Key.{name}

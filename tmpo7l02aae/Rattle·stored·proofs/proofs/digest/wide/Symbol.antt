@@ -1,2 +1,0 @@
-pub use Rattle.stored.proofs.digest.wide.Code.{routine}
-pub use Rattle.stored.proofs.digest.wide.Key.{name}

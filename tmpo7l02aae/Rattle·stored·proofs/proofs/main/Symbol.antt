@@ -1,2 +1,0 @@
-pub use Rattle.stored.proofs.main.Code.{routine}
-pub use Rattle.stored.proofs.main.Key.{name}

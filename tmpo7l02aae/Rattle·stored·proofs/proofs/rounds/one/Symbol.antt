@@ -1,2 +1,0 @@
-pub use Rattle.stored.proofs.rounds.one.Code.{routine}
-pub use Rattle.stored.proofs.rounds.one.Key.{name}

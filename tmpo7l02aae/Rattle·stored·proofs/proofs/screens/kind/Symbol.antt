@@ -1,2 +1,0 @@
-pub use Rattle.stored.proofs.screens.kind.Code.{routine}
-pub use Rattle.stored.proofs.screens.kind.Key.{name}

@@ -1,2 +1,0 @@
-pub use Rattle.stored.proofs.writes.empty.Code.{routine}
-pub use Rattle.stored.proofs.writes.empty.Key.{name}

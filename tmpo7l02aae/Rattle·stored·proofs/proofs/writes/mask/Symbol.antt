@@ -1,2 +1,0 @@
-pub use Rattle.stored.proofs.writes.mask.Code.{routine}
-pub use Rattle.stored.proofs.writes.mask.Key.{name}

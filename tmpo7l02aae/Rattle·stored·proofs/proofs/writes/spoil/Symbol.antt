@@ -1,2 +1,0 @@
-pub use Rattle.stored.proofs.writes.spoil.Code.{routine}
-pub use Rattle.stored.proofs.writes.spoil.Key.{name}
