@@ -38,7 +38,8 @@ spell-turn src b m o at i h l em eo =
     let n : 2 * i + 2 ≡ 2 * (i + 1) = omega arith in
     let t : List ℕ = hexText (take i src) in
     let lt : length t ≡ 2 * i = length-hexText (take i src) ∙ ap (λ (k : ℕ). 2 * k) (length-take-le i src (omega arith)) in
-    let e : t ++ hexText (x ∷ []) ≡ hexText (take (i + 1) src) = sym (ap (λ (k : ℕ). hexText (take k src)) (add-one i) ∙ ap hexText (take-suc src i 0 h) ∙ hex-append (take i src) (x ∷ [])) in
+    let e : t ++ hexText (x ∷ []) ≡ hexText (take (i + 1) src) =
+    sym (ap (λ (k : ℕ). hexText (take k src)) (add-one i) ∙ ap hexText (take-suc src i 0 h) ∙ hex-append (take i src) (x ∷ [])) in
     eo
     ∙ ap (over (at + 2 * i) 2 (hexText (x ∷ []))) em
     ∙ over-over at (2 * i) 2 t (hexText (x ∷ [])) b l lt

@@ -1,3 +1,5 @@
+pub mod Determined
+pub mod Examples
 pub mod Form
 pub mod Marked
 pub mod Splitting

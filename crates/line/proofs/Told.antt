@@ -116,9 +116,9 @@ module _ (s b m : List ℕ) (h : captureBytes ≤ length b) (left : m ≡ lineBy
   unfolding lineTold meaningTold filled
   parse-screen t = go (read s) where
     go : Read s → meaningOf s ≡ screen (take captureBytes m)
-    go (isRefused e) = let w : given oneScreen ≡ refusal 7 = t ∙ room s b h refused e .0 in let z : _≡_ {A = ℕ} 0 1 = cc in absurd (omega arith)
+    go (isRefused e) = let w : given oneScreen ≡ refusal 7 = t ∙ room s b h refused e .0 in cc
     go (isWrites y l e) =
-        let w : given oneScreen ≡ given (writesOf (length (spelled (drop 2 s)))) = t ∙ room s b h (writes (spelled (drop 2 s))) e .0 in let z : _≡_ {A = ℕ} 0 1 = cc in absurd (omega arith)
+        let w : given oneScreen ≡ given (writesOf (length (spelled (drop 2 s)))) = t ∙ room s b h (writes (spelled (drop 2 s))) e .0 in cc
     go (isScreen y l e) =
         let d : List ℕ = spelled (drop 2 s) in
         e ∙ ap screen (sym (ap (take captureBytes) (left ∙ room s b h (screen d) e .1) ∙ front d b captureBytes (sym l)))

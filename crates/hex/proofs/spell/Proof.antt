@@ -41,8 +41,14 @@ loop-less c = omega arith
 loop-again : tie.Need-loop-again Inv-loop μ-loop
 loop-again c =
     let start = c .before .before .before .before .before .before .before .before .before .args in
-    let l = c .before .before .before .before .before .before .loop in
-    (omega arith, (omega arith, spell-turn (start .src .now) (start .out .now) (l .out) _ (start .at) (l .i) (omega arith) (omega arith) (l .inv .1 .1) (c .before .before .spell-byte .ensures)))
+    let l = c .before .before .before .before .before .before .loop in (
+      omega arith,
+      (
+        omega arith,
+        spell-turn (start .src .now) (start .out .now) (l .out) _ (start .at) (l .i) (omega arith) (omega arith) (l .inv .1 .1)
+            (c .before .before .spell-byte .ensures),
+      ),
+    )
 
 same-length : tie.Need-same-length Inv-loop μ-loop
 same-length c = omega arith

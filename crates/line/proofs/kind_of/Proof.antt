@@ -1,7 +1,8 @@
 -- `line::kind_of` meets its contract: its tests are those of the form, in their order.
-use Prim.Native.Nat.{_+_, _*_, _<_, _≤_}
+use Prim.Native.Nat.{ℕ, _+_, _*_, _≤_}
 use mathlib.Core.Bool.{true}
 use mathlib.Core.Path.{_≡_, ap, sym, _∙_}
+use mathlib.Core.List.{List}
 use native.Mathlib.Omega.{arith}
 use borrow.Author.Tests.{not-true, not-false}
 use lib.ListN.{length}
@@ -11,6 +12,21 @@ use Rattle.line.specs.Calls.{kindTold}
 use Rattle.line.proofs.Form.{kindByte, kind-is, too-short, too-long, not-spelled, some-writes, a-screen, short-screen, other-kind}
 use Rattle.line.proofs.kind_of.Statement.{statement}
 use Rattle.line.proofs.kind_of.Tie as tie
+
+-- past the test of the digits: the text, that it spells bytes, and that it has two digits at least and no more than a line
+module _ (c : tie.Else3) where
+  abbrev line : List ℕ
+  line = c .before .before .before .before .before .args .text .now
+
+  good : spells line ≡ true
+  good = sym (c .before .spells .ensures) ∙ not-false _ (c .if3 .left)
+
+  long : 2 ≤ length line
+  long = omega arith
+
+-- past both digits: the kind is the line's first byte
+kind : (c : tie.After-digit2) → kindByte (line (c .before .before .before .before)) ≡ c .before .before .digit .result * 16 + c .digit2 .result
+kind c = kind-is (line (c .before .before .before .before)) _ _ (c .before .before .digit .ensures) (c .digit2 .ensures)
 
 returns : tie.Need-returns
 unfolding kindTold
@@ -34,10 +50,7 @@ digit-requires : tie.Need-digit-requires
 digit-requires c κs = tt
 
 mul-kind : tie.Need-mul-kind
-mul-kind c =
-    let s = c .before .before .before .before .before .before .before .args .text .now in
-    let good : spells s ≡ true = sym (c .before .before .before .spells .ensures) ∙ not-false _ (c .before .before .if3 .left) in
-    omega (arith, digit-at s good 0 (omega arith))
+mul-kind c = let e = c .before .before in omega (arith, digit-at (line e) (good e) 0 (omega arith))
 
 shared-slice-read-digit-2 : tie.Need-shared-slice-read-digit-2
 shared-slice-read-digit-2 c = omega arith
@@ -46,42 +59,32 @@ digit-requires-2 : tie.Need-digit-requires-2
 digit-requires-2 c κs = tt
 
 add-kind : tie.Need-add-kind
-add-kind c =
-    let s = c .before .before .before .before .before .before .before .before .before .args .text .now in
-    let good : spells s ≡ true = sym (c .before .before .before .before .before .spells .ensures) ∙ not-false _ (c .before .before .before .before .if3 .left) in
-    omega (arith, digit-at s good 0 (omega arith), digit-at s good 1 (omega arith))
+add-kind c = let e = c .before .before .before .before in omega (arith, digit-at (line e) (good e) 0 (omega arith), digit-at (line e) (good e) 1 (omega arith))
 
 returns-4 : tie.Need-returns-4
 unfolding kindTold
 returns-4 c =
-    let s = c .before .before .before .before .before .before .before .before .before .before .args .text .now in
-    let good : spells s ≡ true = sym (c .before .before .before .before .before .before .spells .ensures) ∙ not-false _ (c .before .before .before .before .before .if3 .left) in
-    let k : kindByte s ≡ c .before .before .before .digit .result * 16 + c .before .digit2 .result = kind-is s _ _ (c .before .before .before .digit .ensures) (c .before .digit2 .ensures) in
-    sym (ap kindTold (some-writes s good (omega arith) (k ∙ c .if4 .taken) (omega arith)))
+    let e = c .before .before .before .before .before in
+    sym (ap kindTold (some-writes (line e) (good e) (long e) (kind (c .before) ∙ c .if4 .taken) (omega arith)))
 
 returns-5 : tie.Need-returns-5
 unfolding kindTold
 returns-5 c =
-    let s = c .before .before .before .before .before .before .before .before .before .before .before .args .text .now in
-    let good : spells s ≡ true = sym (c .before .before .before .before .before .before .before .spells .ensures) ∙ not-false _ (c .before .before .before .before .before .before .if3 .left) in
-    let k : kindByte s ≡ c .before .before .before .before .digit .result * 16 + c .before .before .digit2 .result = kind-is s _ _ (c .before .before .before .before .digit .ensures) (c .before .before .digit2 .ensures) in
-    sym (ap kindTold (other-kind s good (omega arith) (λ z. c .before .if4 .left (sym k ∙ z)) (λ z. c .if5 .taken (sym k ∙ z))))
+    let e = c .before .before .before .before .before .before in
+    let k = kind (c .before .before) in
+    sym (ap kindTold (other-kind (line e) (good e) (long e) (λ z. c .before .if4 .left (sym k ∙ z)) (λ z. c .if5 .taken (sym k ∙ z))))
 
 returns-6 : tie.Need-returns-6
 unfolding kindTold
 returns-6 c =
-    let s = c .before .before .before .before .before .before .before .before .before .before .before .before .args .text .now in
-    let good : spells s ≡ true = sym (c .before .before .before .before .before .before .before .before .spells .ensures) ∙ not-false _ (c .before .before .before .before .before .before .before .if3 .left) in
-    let k : kindByte s ≡ c .before .before .before .before .before .digit .result * 16 + c .before .before .before .digit2 .result = kind-is s _ _ (c .before .before .before .before .before .digit .ensures) (c .before .before .before .digit2 .ensures) in
-    sym (ap kindTold (a-screen s good (omega arith) (k ∙ c .before .if5 .left) (c .if6 .taken)))
+    let e = c .before .before .before .before .before .before .before in
+    sym (ap kindTold (a-screen (line e) (good e) (long e) (kind (c .before .before .before) ∙ c .before .if5 .left) (c .if6 .taken)))
 
 returns-7 : tie.Need-returns-7
 unfolding kindTold
 returns-7 c =
-    let s = c .before .before .before .before .before .before .before .before .before .before .before .before .args .text .now in
-    let good : spells s ≡ true = sym (c .before .before .before .before .before .before .before .before .spells .ensures) ∙ not-false _ (c .before .before .before .before .before .before .before .if3 .left) in
-    let k : kindByte s ≡ c .before .before .before .before .before .digit .result * 16 + c .before .before .before .digit2 .result = kind-is s _ _ (c .before .before .before .before .before .digit .ensures) (c .before .before .before .digit2 .ensures) in
-    sym (ap kindTold (short-screen s good (omega arith) (k ∙ c .before .if5 .left) (c .if6 .left)))
+    let e = c .before .before .before .before .before .before .before in
+    sym (ap kindTold (short-screen (line e) (good e) (long e) (kind (c .before .before .before) ∙ c .before .if5 .left) (c .if6 .left)))
 
 pub kind-of-spec : {M : Type 1} → statement M
 kind-of-spec =

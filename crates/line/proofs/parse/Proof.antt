@@ -6,7 +6,8 @@ use lib.ListN.{length, take, drop, length-take, length-drop}
 use Rattle.hex.specs.Hex.{spelled}
 use Rattle.parts.specs.Parts.{captureBytes}
 use Rattle.line.proofs.Form.{Body}
-use Rattle.line.proofs.Told.{kind-refused, kind-body, kind-fits, kind-screen, kind-writes, past-kind, answers-short, answers-refused, answers-screen, answers-writes}
+use Rattle.line.proofs.Told.{kind-refused, kind-body, kind-fits, kind-screen, kind-writes, past-kind}
+use Rattle.line.proofs.Told.{answers-short, answers-refused, answers-screen, answers-writes}
 use Rattle.line.proofs.parse.Statement.{statement}
 use Rattle.line.proofs.parse.Tie as tie
 

@@ -40,10 +40,10 @@ same-length c = search needs
 returns : tie.Need-returns
 returns c =
     let start = c .before .before .before .before .before .before .before .before .before .before .before .before .before .before .before .before .args in
-    let d = start .digits .now in (
-      sym (length-refusal d),
-      (omega arith, refusal-put d (start .out .now) _ _ _ (start .at) (omega arith) (c .before .before .before .before .before .before .before .before .before .before .before .put .ensures) (c .before .before .before .before .before .before .before .put2 .ensures) (c .before .before .put3 .ensures)),
-    )
+    let d = start .digits .now in
+    let first = c .before .before .before .before .before .before .before .before .before .before .before .put .ensures in
+    let second = c .before .before .before .before .before .before .before .put2 .ensures in
+    (sym (length-refusal d), (omega arith, refusal-put d (start .out .now) _ _ _ (start .at) (omega arith) first second (c .before .before .put3 .ensures)))
 
 pub refusal-of-spec : {M : Type 1} → statement M
 refusal-of-spec =

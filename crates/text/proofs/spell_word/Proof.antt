@@ -27,7 +27,10 @@ same-length c = search needs
 returns : tie.Need-returns
 returns c =
     let start = c .before .before .before .before .before .before .before .before .before .before .before .args in
-    word-put (start .w) _ _ (start .at) (start .out .now) _ _ (omega arith) (c .before .before .before .before .before .before .before .before .before .high-byte .ensures) (c .before .before .before .before .low-byte .ensures) (c .before .before .before .before .before .before .before .spell-byte .ensures) (c .before .before .spell-byte2 .ensures)
+    let high = c .before .before .before .before .before .before .before .before .before .high-byte .ensures in
+    let low = c .before .before .before .before .low-byte .ensures in
+    let first = c .before .before .before .before .before .before .before .spell-byte .ensures in
+    word-put (start .w) _ _ (start .at) (start .out .now) _ _ (omega arith) high low first (c .before .before .spell-byte2 .ensures)
 
 pub spell-word-spec : {M : Type 1} → statement M
 spell-word-spec =

@@ -57,7 +57,8 @@ returns-3 c =
     let start = c .before .before .before .before .before .before .before .before .before .before .args in
     let f = c .before .before .before .before .before .before .before .find in
     let at = lf-found (start .chunk .now) (start .at) (f .result) (f .ensures .0) in
-    split-copied (start .held) (start .chunk .now) (start .line .now) (start .at) (f .result) at _ (c .before .before .before .before .before .before .if1 .left) (omega arith) (c .before .before .put .ensures)
+    split-copied (start .held) (start .chunk .now) (start .line .now) (start .at) (f .result) at _ (c .before .before .before .before .before .before .if1 .left) (omega arith)
+    (c .before .before .put .ensures)
 
 pub split-spec : {M : Type 1} → statement M
 split-spec =
