@@ -1,3 +1,4 @@
+pub mod Eights
 pub mod Every
 pub mod Masks
 pub mod Overs

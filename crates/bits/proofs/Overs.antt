@@ -1,7 +1,7 @@
 -- A list with a part replaced: its length, its parts, how the kit's `paste` (a copy half done) ends as one, and where it meets other lists.
 use mathlib.Core.Path.{_≡_, sym, ap, ap₂, _∙_}
 use mathlib.Core.List.{List, [], _∷_, _++_, append-assoc, append-nil}
-use Prim.Native.Nat.{ℕ, suc, _+_, _≤_, _<_}
+use Prim.Native.Nat.{ℕ, suc, _+_, _-_, _≤_, _<_}
 use native.Mathlib.Numerals.{add-one}
 use native.Mathlib.Omega.{arith}
 use lib.ListN.{length, take, drop, getD, set, length-append, length-take, length-drop, take-append-drop, drop-of-length-le, List·getD-append}
@@ -82,3 +82,24 @@ set-over at n xs b v h e =
     set-split (over at n xs b) (at + n) v l
     ∙ ap (λ (d : List ℕ). take (at + n) (over at n xs b) ++ (v ∷ d)) one
     ∙ over-over at n 1 xs (v ∷ []) b (omega arith) e
+
+-- a part in two pieces, one after the other
+pub over-split : (at n m : ℕ) (ys b : List ℕ) → at ≤ length b → length ys ≡ n + m → over at (n + m) ys b ≡ over (at + n) m (drop n ys) (over at n (take n ys) b)
+over-split at n m ys b h e =
+    let first : length (take n ys) ≡ n = length-take-le n ys (omega arith) in
+    ap (λ (l : List ℕ). over at (n + m) l b) (sym (take-append-drop n ys)) ∙ sym (over-over at n m (take n ys) (drop n ys) b h first)
+
+-- a part without its first k elements
+drop-take : (k m : ℕ) (l : List ℕ) → k ≤ m → m ≤ length l → drop k (take m l) ≡ take (m - k) (drop k l)
+drop-take k m l h g =
+    let n : length (take m l) ≡ m = length-take-le m l g in
+    let n₂ : length (drop k (take m l)) ≡ m - k = simp length-drop (omega arith) in
+    sym (ap (λ (x : List ℕ). take (m - k) (drop k x)) (sym (take-append-drop m l))
+    ∙ ap (take (m - k)) (drop-append-le k (take m l) (drop m l) (omega arith))
+    ∙ take-at (drop k (take m l)) (drop m l) (m - k) n₂)
+
+pub drop-part : (b : List ℕ) (at m k : ℕ) → k ≤ m → at + m ≤ length b → part (at + k) (at + m - (at + k)) b ≡ drop k (part at m b)
+drop-part b at m k h g =
+    let e : at + m - (at + k) ≡ m - k = omega arith in
+    let n : m ≤ length (drop at b) = simp length-drop (omega arith) in
+    (λ t. take (e t) (sym (drop-drop k at b) t)) ∙ sym (drop-take k m (drop at b) h n)

@@ -130,31 +130,6 @@ module _ (a0 c0 a1 c1 a2 c2 a3 c3 x : ℕ) (h0 : a0 < 256) (k0 : c0 < 256) (h1 :
         bits = g ∙ omega (arith, lane16 a0 c0 h0 k0, lane16 a1 c1 h1 k1, lane16 a2 c2 h2 k2, lane16 a3 c3 h3 k3);
       }
 
--- a byte joins the bytes below it
-or-byte : (acc k b : ℕ) → acc < 2 ^ k → b < 256 → 8 + k ≤ 64 → bitOr acc ((b * 2 ^ k) % 18446744073709551616) ≡ acc + b * 2 ^ k
-or-byte acc k b h l f = ap (bitOr acc) (shl-exact 8 k 64 l f) ∙ or-shifted-r b k acc h ∙ omega arith
-
-pub eight-bytes : (b0 b1 b2 b3 b4 b5 b6 b7 : ℕ) → b0 < 256 → b1 < 256 → b2 < 256 → b3 < 256 → b4 < 256 → b5 < 256 → b6 < 256 → b7 < 256
-    → bitOr (bitOr (bitOr (bitOr (bitOr (bitOr (bitOr b0 ((b1 * 2 ^ 8) % 18446744073709551616)) ((b2 * 2 ^ 16) % 18446744073709551616))
-    ((b3 * 2 ^ 24) % 18446744073709551616)) ((b4 * 2 ^ 32) % 18446744073709551616)) ((b5 * 2 ^ 40) % 18446744073709551616))
-    ((b6 * 2 ^ 48) % 18446744073709551616)) ((b7 * 2 ^ 56) % 18446744073709551616)
-    ≡ b0 + b1 * 256 + b2 * 65536 + b3 * 16777216 + b4 * 4294967296 + b5 * 1099511627776 + b6 * 281474976710656 + b7 * 72057594037927936
-eight-bytes b0 b1 b2 b3 b4 b5 b6 b7 h0 h1 h2 h3 h4 h5 h6 h7 =
-    let s : ℕ → ℕ → ℕ → ℕ = λ (acc k b : ℕ). bitOr acc ((b * 2 ^ k) % 18446744073709551616) in
-    let v1 : ℕ = b0 + b1 * 256 in
-    let v2 : ℕ = v1 + b2 * 65536 in
-    let v3 : ℕ = v2 + b3 * 16777216 in
-    let v4 : ℕ = v3 + b4 * 4294967296 in
-    let v5 : ℕ = v4 + b5 * 1099511627776 in
-    let v6 : ℕ = v5 + b6 * 281474976710656 in
-    ap (λ (y : ℕ). s (s (s (s (s (s y 16 b2) 24 b3) 32 b4) 40 b5) 48 b6) 56 b7) (or-byte b0 8 b1 h0 h1 (omega arith))
-    ∙ ap (λ (y : ℕ). s (s (s (s (s y 24 b3) 32 b4) 40 b5) 48 b6) 56 b7) (or-byte v1 16 b2 (omega arith) h2 (omega arith))
-    ∙ ap (λ (y : ℕ). s (s (s (s y 32 b4) 40 b5) 48 b6) 56 b7) (or-byte v2 24 b3 (omega arith) h3 (omega arith))
-    ∙ ap (λ (y : ℕ). s (s (s y 40 b5) 48 b6) 56 b7) (or-byte v3 32 b4 (omega arith) h4 (omega arith))
-    ∙ ap (λ (y : ℕ). s (s y 48 b6) 56 b7) (or-byte v4 40 b5 (omega arith) h5 (omega arith))
-    ∙ ap (λ (y : ℕ). s y 56 b7) (or-byte v5 48 b6 (omega arith) h6 (omega arith))
-    ∙ or-byte v6 56 b7 (omega arith) h7 (omega arith)
-
 one-low : (y : ℕ) → y % 2 + y / 2 % 2 ≡ 1 → ((y % 4 ≡ 0 → ⊥) × (y % 4 ≡ 3 → ⊥)) × (y % 4 % 2 ≡ y % 2)
 one-low y e =
     let m : y % 4 ≡ y % 2 + 2 * (y / 2 % 2) = omega arith in

@@ -6,12 +6,12 @@ use Prim.Native.Nat.{ℕ, zero, suc, _+_, _*_}
 use native.Mathlib.Numerals.{add-one}
 use native.Mathlib.Omega.{arith}
 use lib.Dec.{lit<}
-use lib.ListN.{length, drop, set, replicate, length-append, length-replicate, replicate-append-replicate}
+use lib.ListN.{length, drop, set, replicate, length-replicate, replicate-append-replicate}
 use lib.Seq.{drop-drop, take-at, drop-at}
 use Rattle.bits.specs.Over.{over}
 use Rattle.receiver.specs.Receive.{idle, stageNumber}
 use Rattle.receiver.specs.Store.{bytesOf}
-use Rattle.layout.proofs.Freshes.{fresh-good}
+use Rattle.layout.proofs.Freshes.{fresh-good, length-times}
 use Rattle.layout.proofs.Goods.{length-save}
 use Rattle.layout.proofs.Made.{Made, made-put, made-set, made-save}
 use Rattle.layout.specs.Block.{flat, isHeld, heldBytes, save}
@@ -32,11 +32,6 @@ sized-zeros (n ∷ ns) = λ t. length-replicate {A = ℕ} n 0 t ∷ sized-zeros 
 
 -- ---- the system palettes
 
-length-times : (n : ℕ) (p : List ℕ) → length p ≡ 8 → length (times n p) ≡ 8 * n
-unfolding times
-length-times zero p h = refl
-length-times (suc n) p h = let e : length (times n p) ≡ 8 * n = length-times n p h in length-append p (times n p) ∙ omega arith
-
 times-more : (n : ℕ) (p : List ℕ) → times n p ++ p ≡ times (suc n) p
 unfolding times
 times-more zero p = sym (append-nil p)
@@ -49,7 +44,8 @@ fill-none p d = refl
 
 pub fill-turn : (n : ℕ) (p d : List ℕ) → length p ≡ 8 → over (8 * n) 8 p (times n p ++ drop (8 * n) d) ≡ times (n + 1) p ++ drop (8 * (n + 1)) d
 fill-turn n p d h =
-    let l : length (times n p) ≡ 8 * n = length-times n p h in
+    let eights : n * length p ≡ n * 8 = ap (λ (k : ℕ). n * k) h in
+    let l : length (times n p) ≡ 8 * n = omega (arith, length-times n p) in
     let e : 8 * n + 8 ≡ 8 * (n + 1) = omega arith in
     (λ t. take-at (times n p) (drop (8 * n) d) (8 * n) l t ++ (p ++ drop 8 (drop-at (times n p) (drop (8 * n) d) (8 * n) l t)))
     ∙ sym (append-assoc (times n p) p (drop 8 (drop (8 * n) d)))
@@ -64,7 +60,7 @@ unfolding new fresh idle wordBytes bytesOf stageNumber isHeld heldBytes countdow
 new-made =
     let m0 : Made (replicate blockBytes 0) (zero-parts sizes) = record { eq = flat-zeros sizes; fit = sized-zeros sizes } in
     let m1 = made-put m0 3 (lit< tt) (wordBytes (0x67BF ∷ 0x265B ∷ 0x10B5 ∷ 0x2866 ∷ [])) refl in
-    let m2 = made-put m1 6 (lit< tt) (times 512 (wordBytes (0x7FFF ∷ 0x56B5 ∷ 0x294A ∷ 0x0000 ∷ []))) (length-times 512 _ refl) in
+    let m2 = made-put m1 6 (lit< tt) (times 512 (wordBytes (0x7FFF ∷ 0x56B5 ∷ 0x294A ∷ 0x0000 ∷ []))) (length-times 512 _) in
     made-save (fresh false) (made-set m2 presetOnAt 1 (lit< tt))
 
 pub post-boot-made : set (set new p15At 1) bothAt 1 ≡ postBoot

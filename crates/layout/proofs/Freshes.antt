@@ -18,7 +18,7 @@ use Rattle.layout.proofs.Goods.{good-valid}
 length-zeros : (n : ℕ) → length (replicate {A = ℕ} n 0) ≡ n
 length-zeros n = length-replicate {A = ℕ} n 0
 
-length-times : (n : ℕ) (l : List ℕ) → length (times n l) ≡ n * length l
+pub length-times : (n : ℕ) (l : List ℕ) → length (times n l) ≡ n * length l
 unfolding times
 length-times zero l = omega arith
 length-times (suc n) l = let e : length (times n l) ≡ n * length l = length-times n l in simp length-append (omega arith)

@@ -5,11 +5,11 @@ use mathlib.Core.List.{List, [], _∷_, _++_, append-assoc}
 use Prim.Native.Nat.{ℕ, zero, suc, _+_, _*_, _/_, _%_, _^_, _<_, _≤_}
 use native.Mathlib.Nat.{pow-suc, zero-add, suc-add, mul-assoc}
 use native.Mathlib.Omega.{arith}
-use lib.Bits.{bitAnd, bitOr, and-mask, or-shifted-r}
+use lib.Bits.{bitAnd, bitOr, and-mask}
 use lib.ListN.{length, take, drop, getD, set, length-append}
-use lib.Pow.{shl-exact}
-use lib.Seq.{drop-cons, take-add, drop-drop, take-at, drop-at, length-take-le, sets-eq}
+use lib.Seq.{drop-cons, take-add, drop-drop, take-at, drop-at, length-take-le}
 use Rattle.bits.specs.Over.{part, over}
+use Rattle.bits.proofs.Eights.{eight-bytes, store-eight}
 use Rattle.bits.proofs.Overs.{length-part}
 use Rattle.layout.specs.Block.{valueOf}
 use Rattle.receiver.specs.Receive.{words}
@@ -17,10 +17,6 @@ use Rattle.receiver.specs.Store.{bytesOf}
 use Rattle.receiver.proofs.Words.{length-bytes}
 
 -- ---- from bytes
-
--- one byte more above k bits
-or-byte : (acc k b : ℕ) → acc < 2 ^ k → b < 256 → 8 + k ≤ 64 → bitOr acc ((b * 2 ^ k) % 18446744073709551616) ≡ acc + b * 2 ^ k
-or-byte acc k b h hb hk = ap (bitOr acc) (shl-exact 8 k 64 hb hk) ∙ or-shifted-r b k acc h ∙ omega arith
 
 abbrev eight : ℕ → ℕ → ℕ → ℕ → ℕ → ℕ → ℕ → ℕ → ℕ
 eight b0 b1 b2 b3 b4 b5 b6 b7 =
@@ -31,22 +27,7 @@ pub or-eight : (b0 b1 b2 b3 b4 b5 b6 b7 : ℕ) → b0 < 256 → b1 < 256 → b2 
     ((b3 * 2 ^ 24) % 18446744073709551616)) ((b4 * 2 ^ 32) % 18446744073709551616)) ((b5 * 2 ^ 40) % 18446744073709551616))
     ((b6 * 2 ^ 48) % 18446744073709551616)) ((b7 * 2 ^ 56) % 18446744073709551616)
     ≡ eight b0 b1 b2 b3 b4 b5 b6 b7
-or-eight b0 b1 b2 b3 b4 b5 b6 b7 h0 h1 h2 h3 h4 h5 h6 h7 =
-    let s : ℕ → ℕ → ℕ → ℕ = λ (acc k b : ℕ). bitOr acc ((b * 2 ^ k) % 18446744073709551616) in
-    let v1 : ℕ = b0 + b1 * 256 in
-    let v2 : ℕ = v1 + b2 * 65536 in
-    let v3 : ℕ = v2 + b3 * 16777216 in
-    let v4 : ℕ = v3 + b4 * 4294967296 in
-    let v5 : ℕ = v4 + b5 * 1099511627776 in
-    let v6 : ℕ = v5 + b6 * 281474976710656 in
-    ap (λ (y : ℕ). s (s (s (s (s (s y 16 b2) 24 b3) 32 b4) 40 b5) 48 b6) 56 b7) (or-byte b0 8 b1 h0 h1 (omega arith))
-    ∙ ap (λ (y : ℕ). s (s (s (s (s y 24 b3) 32 b4) 40 b5) 48 b6) 56 b7) (or-byte v1 16 b2 (omega arith) h2 (omega arith))
-    ∙ ap (λ (y : ℕ). s (s (s (s y 32 b4) 40 b5) 48 b6) 56 b7) (or-byte v2 24 b3 (omega arith) h3 (omega arith))
-    ∙ ap (λ (y : ℕ). s (s (s y 40 b5) 48 b6) 56 b7) (or-byte v3 32 b4 (omega arith) h4 (omega arith))
-    ∙ ap (λ (y : ℕ). s (s y 48 b6) 56 b7) (or-byte v4 40 b5 (omega arith) h5 (omega arith))
-    ∙ ap (λ (y : ℕ). s y 56 b7) (or-byte v5 48 b6 (omega arith) h6 (omega arith))
-    ∙ or-byte v6 56 b7 (omega arith) h7 (omega arith)
-    ∙ omega arith
+or-eight b0 b1 b2 b3 b4 b5 b6 b7 h0 h1 h2 h3 h4 h5 h6 h7 = eight-bytes b0 b1 b2 b3 b4 b5 b6 b7 h0 h1 h2 h3 h4 h5 h6 h7 ∙ omega arith
 
 -- the first n elements from `at` on, one by one
 part-cons : (b : List ℕ) (at next n : ℕ) → suc at ≡ next → at + suc n ≤ length b → part at (suc n) b ≡ getD b at 0 ∷ part next n b
@@ -87,24 +68,6 @@ value-words b at h =
 -- byte k of a word, by the code's shift and mask; in `bytesOf` it is a byte of what is left after each byte before it
 byte-of : (w k v : ℕ) → w / 2 ^ k ≡ v → bitAnd (w / 2 ^ k) 255 ≡ v % 256
 byte-of w k v e = and-mask (w / 2 ^ k) 8 ∙ ap (λ (x : ℕ). x % 256) e
-
--- eight stores in a row
-pub store-eight : (b : List ℕ) (at v0 v1 v2 v3 v4 v5 v6 v7 : ℕ) → at + 8 ≤ length b
-    → set (set (set (set (set (set (set (set b at v0) (at + 1) v1) (at + 2) v2) (at + 3) v3) (at + 4) v4) (at + 5) v5) (at + 6) v6) (at + 7) v7
-    ≡ over at 8 (v0 ∷ v1 ∷ v2 ∷ v3 ∷ v4 ∷ v5 ∷ v6 ∷ v7 ∷ []) b
-store-eight b at v0 v1 v2 v3 v4 v5 v6 v7 h =
-    let i1 : at + 1 ≡ suc at = omega arith in
-    let i2 : at + 2 ≡ suc (suc at) = omega arith in
-    let i3 : at + 3 ≡ suc (suc (suc at)) = omega arith in
-    let i4 : at + 4 ≡ suc (suc (suc (suc at))) = omega arith in
-    let i5 : at + 5 ≡ suc (suc (suc (suc (suc at)))) = omega arith in
-    let i6 : at + 6 ≡ suc (suc (suc (suc (suc (suc at))))) = omega arith in
-    let i7 : at + 7 ≡ suc (suc (suc (suc (suc (suc (suc at)))))) = omega arith in
-    let vs : List ℕ = v0 ∷ v1 ∷ v2 ∷ v3 ∷ v4 ∷ v5 ∷ v6 ∷ v7 ∷ [] in
-    (λ t. set (set (set (set (set (set (set (set b at v0) (i1 t) v1) (i2 t) v2) (i3 t) v3) (i4 t) v4) (i5 t) v5) (i6 t) v6) (i7 t) v7)
-    ∙ sets-eq vs b at h
-    ∙ append-assoc (take at b) vs (drop (at + 8) b)
-    ∙ ap (λ (l : List ℕ). take at b ++ (vs ++ l)) (sym (drop-drop 8 at b))
 
 -- of a word's bytes
 pub put-eight : (b : List ℕ) (at w : ℕ) → at + 8 ≤ length b

@@ -14,7 +14,7 @@ use Rattle.bits.specs.Tab.{tab}
 use Rattle.bits.specs.Paint.{Painted}
 use Rattle.bits.proofs.Tabs.{getD-tab, length-tab}
 use Rattle.bits.proofs.Pairs.{pair-lt}
-use Rattle.bits.proofs.Tests.{and-left}
+use Rattle.bits.proofs.Tests.{and-left, same-test}
 use Rattle.bits.proofs.Painting.{painted-same, painted-tab, painted-run, painted-count}
 use Rattle.colour.specs.Entry.{tileOf, paletteOf, flipX, flipY}
 use Rattle.screen.specs.Packed.{pairAt, cellAt}
@@ -73,11 +73,6 @@ tables-are s l g b back f es el eg =
     }
 
 -- the screen's cells are where the screen is
-same-test : (a b : Bool) → (a ≡ true → b ≡ true) → (b ≡ true → a ≡ true) → a ≡ b
-same-test true b f g = sym (f refl)
-same-test false true f g = g refl
-same-test false false f g = refl
-
 cells : (x y : ℕ) → within (x / 8) y ≡ onScreen x y
 unfolding within
 cells x y =

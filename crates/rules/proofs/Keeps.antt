@@ -7,7 +7,7 @@ use Prim.Native.Nat.{ℕ, _-_, _*_, _/_, _<_, _≤_}
 use native.Mathlib.Omega.{arith}
 use borrow.Author.Tests.{leb-false}
 use lib.Dec.{leb}
-use lib.ListN.{length, take, length-append, length-take, length-drop}
+use lib.ListN.{length, take, length-take, length-drop}
 use lib.Seq.{length-take-le}
 use Rattle.bits.proofs.Overs.{length-over}
 use Rattle.receiver.specs.Lines.{p14High, p15High, bothHigh, pulseOf}
@@ -25,10 +25,11 @@ use Rattle.transfer.specs.declared.pending.Pending.the-variants as P
 use Rattle.transfer.specs.declared.pending.Landed.{Landed}
 use Rattle.transfer.specs.declared.pending.Landed.the-variants as L
 use Rattle.transfer.specs.declared.pending.Transfer.the-variants.{Palettes, Attributes, BorderTiles, BorderMap}
-use Rattle.transfer.proofs.Parts.{page-long}
+use Rattle.transfer.proofs.Parts.{page-long, border-long}
 use Rattle.parts.specs.Parts.{storeBytes, captureBytes, tilesBytes, halfBytes, borderBytes}
 use Rattle.layout.specs.Good.{Good, GoodPort, GoodGame, GoodSnes, GoodPending}
 use Rattle.layout.specs.Sgb.{Sgb, Game, Snes}
+use Rattle.attributes.specs.Data.{Whole}
 use Rattle.commands.specs.Command as command
 use Rattle.rules.specs.Carry.{carried}
 use Rattle.rules.specs.Write.{advanced, meant, carries, stepped, written}
@@ -56,16 +57,20 @@ port-kept p v h = record {
 }
 
 -- a command that is complete has 16 to 112 bytes, packet by packet
-pub record Whole (d : List ℕ) : Type 0 where
+pub record Complete (d : List ℕ) : Type 0 where
   pub least : 16 ≤ length d
   pub most : length d ≤ storeBytes
   pub packets : length d ≡ 16 * (length d / 16)
 
+-- so it is what the attribute commands take
+pub complete-whole : {d : List ℕ} → Complete d → Whole d
+complete-whole c = record { least = c .least; most = c .most }
+
 abbrev pub WholeIf : Option (List ℕ) → Type 0
 WholeIf none = Unit {0}
-WholeIf (some d) = Whole d
+WholeIf (some d) = Complete d
 
-front-whole : (n : ℕ) (s : List ℕ) → (0 < n) × (n < 8) → length s ≡ storeBytes → Whole (take (16 * n) s)
+front-whole : (n : ℕ) (s : List ℕ) → (0 < n) × (n < 8) → length s ≡ storeBytes → Complete (take (16 * n) s)
 front-whole n s f l =
     let e : length (take (16 * n) s) ≡ 16 * n = length-take-le (16 * n) s (omega arith) in
     record { least = omega arith; most = omega arith; packets = omega arith }
@@ -140,10 +145,6 @@ tiles-good l s e h = record {
   borderMap = h .borderMap;
   borderPalettes = h .borderPalettes;
 }
-
-border-long : (x : List ℕ) → length (mapLanded x) ≡ borderBytes
-unfolding mapLanded
-border-long x = let e : length (pageOf x) ≡ pageBytes = page-long x in simp (length-append, length-take, length-drop) (omega arith)
 
 landed-good : (n : Landed) (x : List ℕ) (s : Snes) → GoodSnes s → GoodSnes (landed n x s)
 unfolding landed withSystem withFiles withBorder palettesLanded filesLanded tilesLanded

@@ -1,15 +1,14 @@
 -- What a screen leaves, told by parts (`Made`), is the block of the unit after it: the parts of the one are the parts of the other.
 use mathlib.Core.Path.{_≡_, sym, ap, _∙_, subst⁻¹}
 use mathlib.Core.Bool.{true, false}
-use mathlib.Core.List.{List, _++_, append-assoc}
+use mathlib.Core.List.{List}
 use Prim.Native.Nat.{ℕ, _+_, _≤_}
 use native.Mathlib.Omega.{arith}
 use lib.Dec.{lit<, lit≤}
-use lib.ListN.{length, take, drop, set, length-append, length-take, length-drop, take-append-drop}
-use lib.Seq.{drop-drop}
+use lib.ListN.{length, take, drop, set, length-take, length-drop}
 use Rattle.parts.specs.Parts.{blockBytes, countdownAt, kindAt, systemAt, systemBytes, filesAt, filesBytes, liveAt, captureBytes, tilesAt, tilesBytes, halfBytes, upperTilesAt, borderMapAt, borderMapBytes, borderPalettesBytes, borderBytes}
 use Rattle.bits.specs.Over.{part, over}
-use Rattle.bits.proofs.Overs.{length-over, length-part, over-next}
+use Rattle.bits.proofs.Overs.{length-over, length-part, over-split}
 use Rattle.transfer.specs.Landing.{palettesLanded, filesLanded, tilesLanded, mapLanded}
 use Rattle.transfer.specs.Page.{pageBytes, pageOf}
 use Rattle.transfer.specs.Pending.{countdownOf, kindOf}
@@ -18,7 +17,7 @@ use Rattle.transfer.specs.declared.pending.Landed.{Landed}
 use Rattle.transfer.specs.declared.pending.Landed.the-variants.{Nothing, Page}
 use Rattle.transfer.specs.declared.pending.Pending.{Pending}
 use Rattle.transfer.specs.declared.pending.Transfer.the-variants.{Palettes, Attributes, BorderTiles, BorderMap}
-use Rattle.transfer.proofs.Parts.{page-long}
+use Rattle.transfer.proofs.Parts.{page-long, border-long}
 use Rattle.layout.specs.Block.{load, save, parts}
 use Rattle.layout.specs.Good.{Good}
 use Rattle.layout.specs.Sgb.{Sgb}
@@ -30,22 +29,6 @@ use Rattle.rules.proofs.Keeps.{captured-good}
 use Rattle.carry.specs.Carrying.{Valid}
 use Rattle.carry.proofs.Steps.{held}
 use Rattle.show.specs.Shown.{withSnes, snesBlock, countedDown}
-
--- a part in two pieces, one after the other
-pub over-split : (at n m : ℕ) (ys b : List ℕ) → at ≤ length b → length ys ≡ n + m → over at (n + m) ys b ≡ over (at + n) m (drop n ys) (over at n (take n ys) b)
-over-split at n m ys b h e =
-    let long : length (take at b ++ take n ys) ≡ at + n = simp (length-append, length-take) (omega arith) in
-    let past = drop n (drop at b) in
-    sym
-    (ap (over (at + n) m (drop n ys)) (sym (append-assoc (take at b) (take n ys) past))
-    ∙ over-next (at + n) m (take at b ++ take n ys) (drop n ys) past long
-    ∙ ap (λ (l : List ℕ). l ++ drop m past) (append-assoc (take at b) (take n ys) (drop n ys) ∙ ap (λ (l : List ℕ). take at b ++ l) (take-append-drop n ys))
-    ∙ append-assoc (take at b) ys (drop m past)
-    ∙ ap (λ (l : List ℕ). take at b ++ (ys ++ l)) (drop-drop m n (drop at b)))
-
-border-long : (x : List ℕ) → length (mapLanded x) ≡ borderBytes
-unfolding mapLanded
-border-long x = let e : length (pageOf x) ≡ pageBytes = page-long x in simp (length-append, length-take, length-drop) (omega arith)
 
 -- ---- the two bytes
 

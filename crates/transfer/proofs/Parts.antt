@@ -3,7 +3,7 @@ use mathlib.Core.Path.{_≡_, sym, ap, ap₂, _∙_}
 use mathlib.Core.List.{List, _++_}
 use Prim.Native.Nat.{ℕ, _+_, _/_, _%_}
 use native.Mathlib.Omega.{arith}
-use lib.ListN.{length, take, drop, length-take, length-drop}
+use lib.ListN.{length, take, drop, length-append, length-take, length-drop}
 use Rattle.parts.specs.Parts.{filesBytes, borderMapBytes, borderPalettesBytes, borderBytes}
 use Rattle.bits.specs.Over.{over}
 use Rattle.bits.proofs.Overs.{over-all, over-rest}
@@ -14,6 +14,11 @@ use Rattle.transfer.specs.Landing.{filesLanded, mapLanded}
 pub page-long : (s : List ℕ) → length (pageOf s) ≡ pageBytes
 unfolding pageOf
 page-long s = length-tab pageBytes (λ k. planeByte s (k / 16) (k % 16 / 2) (k % 2))
+
+-- the map and its palettes
+pub border-long : (s : List ℕ) → length (mapLanded s) ≡ borderBytes
+unfolding mapLanded
+border-long s = let e : length (pageOf s) ≡ pageBytes = page-long s in simp (length-append, length-take, length-drop) (omega arith)
 
 -- the attribute files, and the map with its palettes: parts of the page, one after the other
 pub files-are : (s page part out : List ℕ) → page ≡ pageOf s → length part ≡ filesBytes

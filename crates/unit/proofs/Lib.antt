@@ -1,4 +1,5 @@
 pub mod Calling
 pub mod Determined
+pub mod Ties
 pub mod Together
 pub mod Writes

@@ -1,6 +1,6 @@
 -- A write steps the port and then carries its command out: one that completes none has done all with the step, and the command that one
 -- completes is what stands in the buffer.
-use mathlib.Core.Path.{_≡_, refl, sym, ap, _∙_}
+use mathlib.Core.Path.{_≡_, refl, sym, ap, _∙_, subst⁻¹}
 use mathlib.Core.List.{List, _++_}
 use mathlib.Core.Option.{Option, none, some}
 use Prim.Native.Nat.{ℕ, _*_, _/_, _≤_}
@@ -8,7 +8,7 @@ use native.Mathlib.Omega.{arith}
 use lib.ListN.{length, take, drop, length-take}
 use lib.Seq.{take-at}
 use Rattle.receiver.specs.Port.{answered}
-use Rattle.attributes.specs.Data as attributes
+use Rattle.attributes.specs.Data.{Whole}
 use Rattle.commands.specs.Command.{Command, decode}
 use Rattle.layout.specs.Block.{load, save}
 use Rattle.layout.specs.Valid.{valid, Valid}
@@ -17,7 +17,7 @@ use Rattle.layout.specs.Sgb.{Sgb}
 use Rattle.layout.proofs.Goods.{valid-good, good-back, good-valid, length-save}
 use Rattle.rules.specs.Carry.{plainly, carriedGame, carriedSnes, carried}
 use Rattle.rules.specs.Write.{meant, carries, stepped, written, answer}
-use Rattle.rules.proofs.Keeps.{Whole, WholeIf, answered-whole, good-stepped}
+use Rattle.rules.proofs.Keeps.{Complete, WholeIf, complete-whole, answered-whole, good-stepped}
 use Rattle.port.specs.Bytes.{handed, packetsIn}
 use Rattle.carry.specs.Carrying.{carriedBlock}
 use Rattle.unit.specs.Calls.{counted}
@@ -41,7 +41,7 @@ none-answered u v g = go (answered (u .port) v) (answered-whole (u .port) v (g .
 
 -- a write that completes one: its n packets stand at the front of the buffer, whole, and are what it carries out
 pub record Said (u : Sgb) (v n : ℕ) (buffer : List ℕ) : Type 0 where
-  pub whole : attributes.Whole (take (16 * n) buffer)
+  pub whole : Whole (take (16 * n) buffer)
   pub room : 16 * n ≤ length buffer
   pub told : counted (answer u v) ≡ some n
   pub means : carries (u .port) v ≡ decode (take (16 * n) buffer)
@@ -50,7 +50,7 @@ pub said : (u : Sgb) (v n : ℕ) (before buffer : List ℕ) → Good u → n ≡
 unfolding carries answer
 said u v n before buffer g e some-in f = go (answered (u .port) v) (answered-whole (u .port) v (g .port)) e f refl
   where
-    front : (d : List ℕ) → Whole d → n ≡ length d / 16 → take (16 * n) (d ++ drop (length d) before) ≡ d
+    front : (d : List ℕ) → Complete d → n ≡ length d / 16 → take (16 * n) (d ++ drop (length d) before) ≡ d
     front d w q = take-at d (drop (length d) before) (16 * n) (omega (arith, w .packets))
 
     go : (o : Option (List ℕ)) → WholeIf o → n ≡ packetsIn o → buffer ≡ handed o before → answered (u .port) v ≡ o → Said u v n buffer
@@ -59,12 +59,12 @@ said u v n before buffer g e some-in f = go (answered (u .port) v) (answered-who
         let h′ : buffer ≡ d ++ drop (length d) before = (unfold handed in h) in
         let q′ : n ≡ length d / 16 = (unfold packetsIn in q) in
         let m : meant (some d) ≡ decode d = (unfold meant in refl) in
-        let z : counted (some d) ≡ some (length d / 16) = (unfold counted in refl) in
+        let z : counted (some d) ≡ some (packetsIn (some d)) = (unfold counted in refl) in
         let b : take (16 * n) buffer ≡ d = ap (take (16 * n)) h′ ∙ front d w q′ in
         record {
-          whole = record { least = omega (arith, w .least, ap length b); most = omega (arith, w .most, ap length b) };
+          whole = subst⁻¹ (λ (l : List ℕ). Whole l) b (complete-whole w);
           room = omega (arith, length-take (16 * n) buffer, ap length b, w .packets);
-          told = ap counted k ∙ z ∙ ap some (sym q′);
+          told = ap counted k ∙ z ∙ ap some (sym q);
           means = ap meant k ∙ m ∙ ap decode (sym b);
         }
 

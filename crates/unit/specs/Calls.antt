@@ -1,7 +1,7 @@
 -- The public calls that change a block: what each answers and every lent byte after it, for all input. Document 01, Refusals by number:
 -- "The lowest number wins. A refusal answers the number alone, and no lent byte changes." What a call does to a valid block is the rules'
 -- (`Write` and `Screen` of the crate `rules`), read from the block and put back (`load` and `save`).
-use Prim.Native.Nat.{ℕ, _/_}
+use Prim.Native.Nat.{ℕ}
 use mathlib.Core.Bool.{cond}
 use mathlib.Core.List.{List}
 use mathlib.Core.Option.{Option, none, some}
@@ -14,7 +14,7 @@ use Rattle.layout.specs.Block.{load, save}
 use Rattle.layout.specs.Fresh.{new, postBoot}
 use Rattle.rules.specs.Write.{written, answer}
 use Rattle.rules.specs.Screen.{screened, landing}
-use Rattle.port.specs.Bytes.{handed}
+use Rattle.port.specs.Bytes.{handed, packetsIn}
 use Rattle.view.specs.Refusal.{refusing}
 use Rattle.view.specs.Drawn.{leaves}
 
@@ -23,7 +23,7 @@ use Rattle.view.specs.Drawn.{leaves}
 -- the packets of a command that is complete: its bytes stand at the front of the buffer
 unfoldable pub counted : Option (List ℕ) → Option ℕ
 counted none = none
-counted (some d) = some (length d / 16)
+counted (some d) = some (packetsIn (some d))
 
 unfoldable pub writeAnswer : List ℕ → ℕ → List ℕ → Answer (Option ℕ)
 writeAnswer b v command = refusing b (cond (leb storeBytes (length command)) (given (counted (answer (load b) v))) (refused 6))

@@ -8,12 +8,11 @@ use denote.Ref.{now}
 use lib.Dec.{lit<}
 use lib.ListN.{getD}
 use Rattle.parts.specs.Parts.{storeAt, storeBytes}
-use Rattle.bits.proofs.Overs.{getD-part}
+use Rattle.bits.proofs.Overs.{getD-part, drop-part}
 use Rattle.bits.specs.Zero.{zeros}
 use Rattle.layout.specs.Block.{load}
 use Rattle.receiver.specs.Count.{countOf}
 use Rattle.receiver.specs.Valid.{later}
-use Rattle.valid.proofs.Bytes.{drop-part}
 use Rattle.valid.proofs.some_in.Statement.{statement}
 use Rattle.valid.proofs.some_in.Tie as tie
 

@@ -6,8 +6,8 @@ use native.Mathlib.Omega.{arith}
 use denote.Ref.{now}
 use lib.ListN.{getD}
 use Rattle.parts.specs.Parts.{countdownAt}
+use Rattle.bits.proofs.Tests.{or-false}
 use Rattle.layout.specs.Valid.{v4}
-use Rattle.valid.proofs.Bytes.{or-false}
 use Rattle.valid.proofs.v4.Statement.{statement}
 use Rattle.valid.proofs.v4.Tie as tie
 

@@ -1,5 +1,5 @@
 -- Each byte goes above those before it.
-use Rattle.fast.proofs.Lanes.{eight-bytes}
+use Rattle.bits.proofs.Eights.{eight-bytes}
 use Rattle.fast.specs.Fast.{eightAt}
 use borrow.Author.Needs.{needs}
 use Rattle.fast.proofs.gather.eight.Statement.{statement}
