@@ -182,7 +182,8 @@ def short(t, p, few=False):
         return t.left_out("logs cut short: the Rust is not at hand")
     log = b"01003020\n0130\n\n01z\n" + hexed(b"\x01" + pulses(MASK_BLACK))[:40] + b"\n01\n0110"
     for end in range(len(log) + 1):
-        t.same(f"replay: the first {end} bytes", p.replay(log[:end]), p.told("replay", log[:end]).out)
+        for name in ("replay", "plate"):
+            t.same(f"{name}: the first {end} bytes", p.run(name, log[:end]), p.told(name, log[:end]).out)
     dusk = open(os.path.join(p.root, "samples", "dusk.log"), "rb").read()
     for end in () if few else range(1, len(dusk), 9973):
         for name in ("replay", "plate"):

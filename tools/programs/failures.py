@@ -116,7 +116,7 @@ def memory(t, p, few=False):
         ended = p.watch("replay", line(huge), 4)
         text = b"line 1: 7\n00000001000100000101000000\n"
         t.check(f"replay: a line of {huge} bytes", ended.out == text and ended.status == 0, ended.show)
-        bounded(t, f"a line of {huge} bytes", base, ended)
+        bounded(t, f"replay: a line of {huge} bytes", base, ended)
         ended = p.watch("plate", line(huge), 4)
         t.check(f"plate: a line of {huge} bytes", ended.out == b"line 1: 7\n" and ended.status == 0, ended.show)
     piece = dusk(p) + b"\n".join(answers.logs.damaged_line(answers.logs.random.Random(i)) for i in range(20)) + b"\n"
@@ -124,7 +124,7 @@ def memory(t, p, few=False):
         few_of_them, many = MEGABYTE // len(piece), (4 * MEGABYTE if few else p.long) // len(piece)
         base = p.watch(name, [piece] * few_of_them)
         ended = p.watch(name, [piece] * many, 4)
-        bounded(t, f"a log of {many * len(piece)} bytes", base, ended)
+        bounded(t, f"{name}: a log of {many * len(piece)} bytes", base, ended)
         if p.oracle:
             t.check(f"{name}: a log of {many * len(piece)} bytes", ended.out == p.watch_told(name, [piece] * many).out, ended.show)
 

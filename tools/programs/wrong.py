@@ -57,6 +57,9 @@ def given(log):
         lines = [line[:11522] if line.startswith(b"01") and len(line) == 11524 else line for line in lines]
     if fault == "screen-5759":
         lines = [line + b"00" if line.startswith(b"02") and len(line) == 11520 else line for line in lines]
+    if fault == "goes-on":
+        whole = re.compile(rb"01(?:[0-9A-Fa-f]{2}){0,5760}|02(?:[0-9A-Fa-f]{2}){5760}")
+        lines = [line for line in lines if whole.fullmatch(line)]
     if fault == "up-to-the-fault":
         digits = [re.match(rb"(?:[0-9A-Fa-f]{2})*", line).group() for line in lines]
         lines = [d if d.startswith(b"01") and len(d) <= 11522 else line for d, line in zip(digits, lines)]
