@@ -1,4 +1,5 @@
 # To be sourced, in the repository's root: what crates.txt says of a crate, whether a file is up to date, and where the kit stands.
+# The functions set found, todo, next, crate and made.
 
 # Whether crates.txt lists a crate, and what it says that the crate uses.
 listed() { sed 's/#.*//' crates.txt | grep -q "^[[:blank:]]*$1[[:blank:]]*:"; }

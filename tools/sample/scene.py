@@ -81,22 +81,23 @@ def paint_hills(c):
 
 
 def silhouette(c, x, base, half, stem):
-    """A far mushroom, dark, its cap's upper edge touched by the light."""
+    """A far mushroom, dark: a dome, pale gills drawn in towards the stem, and the edge that looks to the sun in its light."""
     top = base - stem
-    for y in range(top - half, base + 4):
+    domed = lambda dx, y: y <= top and (dx / (half + 0.4)) ** 2 + ((y - top) / (half + 0.5)) ** 2 <= 1
+    for y in range(top - half - 1, base + 4):
         for dx in range(-half, half + 1):
-            dome = y <= top and (dx / (half + 0.4)) ** 2 + ((y - top) / half) ** 2 <= 1
-            gills = top < y <= top + 1 + half // 5 and abs(dx) <= half - 2 * (y - top)
-            trunk = y > top and abs(dx) <= 0.5 + half * 0.08 + (0.16 * half * ((y - top) / stem) ** 3)
-            if dome or gills or trunk:
+            trunk = y > top and abs(dx) <= 0.5 + half * 0.08 + 0.16 * half * ((y - top) / stem) ** 3
+            gills = top < y <= top + 1 + half // 4 and abs(dx) <= (half - 1) * (1 - (y - top - 1) / (2 + half // 4))
+            if domed(dx, y) or trunk:
                 c.put(x + dx, y, 0)
+            elif gills:
+                c.put(x + dx, y, 1 if (dx + half) % 2 else 0)
     towards = 1 if SUN[0] > x else -1
-    for dx in range(-half, half + 1):
-        if dx * towards > -half // 4:
-            for y in range(top - half, top + 1):
-                if (dx / (half + 0.4)) ** 2 + ((y - top) / half) ** 2 <= 1:
-                    c.put(x + dx, y, 2 if dx * towards > half // 3 else 1)
-                    break
+    for y in range(top - half - 1, top + 1):
+        for dx in range(-half, half + 1):
+            lit_edge = domed(dx, y) and not (domed(dx + towards, y) and domed(dx, y - 1))
+            if lit_edge and dx * towards > -half // 3:
+                c.put(x + dx, y, 2 if dx * towards > half // 4 else 1)
 
 
 def paint_lake(c):

@@ -10,7 +10,7 @@ use Rattle.bits.specs.Pair.{pairOf}
 use Rattle.attribute_map.specs.Map.{columns, rows, cell, Sized, pack}
 use Rattle.attribute_map.specs.Map as map
 use Rattle.attribute_map.proofs.Packing.{unpack-cell, unpack-pack}
-use Rattle.screen.specs.Packed.{packedCell, cellAt}
+use Rattle.screen.specs.Packed.{pairAt, cellAt}
 use Rattle.pulses.specs.Bytes.{malformed}
 use Rattle.pulses.specs.Bytes as pulses
 use Rattle.pulses.proofs.Commands.{formed}
@@ -18,7 +18,7 @@ use Rattle.port.specs.Bytes.{packetsIn}
 
 -- the picture finds a cell by its number, the commands by its row and column: twenty cells fill five bytes
 pub cell-alike : (b : List ℕ) (x y : ℕ) → cellAt b x y ≡ map.packedCell b x y
-unfolding packedCell
+unfolding pairAt
 cell-alike b x y =
     let q : (y * 20 + x) / 4 ≡ 5 * y + x / 4 = omega arith in
     let r : (y * 20 + x) % 4 ≡ x % 4 = omega arith in

@@ -1,0 +1,183 @@
+"""Suites on what goes wrong around the programs: input that can't be read, output that can't be written, lines and logs without end,
+and the words that the commands in bin/ say. Each run is under a time limit, so that nothing loops."""
+
+import fcntl
+import os
+import subprocess
+import tempfile
+import threading
+
+import answers
+
+MEGABYTE = 1 << 20
+# How much more a program may hold, in kB, after a thousand times the input.
+SPARE = 1024
+
+
+def dusk(p):
+    return open(os.path.join(p.root, "samples", "dusk.log"), "rb").read()
+
+
+def refuses(t, p, what, name, wanted, **how):
+    """The program alone says a word or ends by a signal; bin/NAME says a word and has a status. What was written is a beginning of
+    what is wanted, and not all of it."""
+    for via, ended in (("", p.run(name, **how)), ("bin/", p.bin(name, **how))):
+        clear = ended.failed_clearly() if not via else ended.status not in (0, None) and ended.said != b""
+        kept = wanted.startswith(ended.out) and ended.out != wanted
+        t.check(f"{via}{name}: {what}", clear and kept, ended.show)
+
+
+def reading(t, p, few=False):
+    """Input that can't be read: no answer that looks whole, and a word."""
+    wanted = {"replay": p.replay(b"").out, "plate": p.plate(b"").out}
+    for name in ("replay", "plate"):
+        with_descriptor(lambda fd: refuses(t, p, "input is a folder", name, wanted[name], stdin=fd), "/", os.O_RDONLY)
+        with_descriptor(lambda fd: refuses(t, p, "input is for writing", name, wanted[name], stdin=fd), os.devnull, os.O_WRONLY)
+        refuses(t, p, "input is closed", name, wanted[name], stdin=None)
+        for via in (p.run, p.bin):
+            t.check(f"{name}: a read fails after a line", *stops_midway(via, name, wanted[name]))
+
+
+def stops_midway(via, name, whole):
+    """A pipe that does not wait: once it is empty, a read of it fails."""
+    ours, theirs = os.pipe()
+    os.set_blocking(ours, False)
+    os.write(theirs, b"01\n01003020\n0100")
+    ended = via(name, stdin=ours)
+    os.close(ours)
+    os.close(theirs)
+    return ended.failed_clearly() and not ended.out.endswith(b"0000\n") and ended.out != whole, ended.show
+
+
+def with_descriptor(use, path, flags):
+    fd = os.open(path, flags)
+    try:
+        use(fd)
+    finally:
+        os.close(fd)
+
+
+def writing(t, p, few=False):
+    """Output that can't be written, from the first byte on or at the last alone."""
+    log = dusk(p)
+    for name in ("replay", "plate"):
+        whole = p.run(name, log).out
+        refuses(t, p, "output is closed", name, whole, stdin=log, stdout="closed")
+        with_descriptor(lambda fd: refuses(t, p, "output is full", name, whole, stdin=log, stdout=fd), "/dev/full", os.O_WRONLY)
+        with_descriptor(lambda fd: refuses(t, p, "output is for reading", name, whole, stdin=log, stdout=fd), os.devnull, os.O_RDONLY)
+        for most in (0, 1, 100, len(whole) // 2, len(whole) - 27, len(whole) - 2, len(whole) - 1):
+            for via in (p.run, p.bin):
+                ended = via(name, stdin=log, settings=[f"room{most}"])
+                t.check(f"{name}: room for {most} of {len(whole)} bytes", ended.failed_clearly() and ended.out == whole[:most], ended.show)
+        ended = p.bin(name, stdin=log, settings=[f"room{len(whole)}"])
+        t.check(f"{name}: room for just all", ended.status == 0 and ended.out == whole and not ended.said, ended.show)
+        for deaf in (False, True):
+            nobody_reads(t, p, name, log, deaf)
+        slowly(t, p, name, whole, log)
+
+
+def nobody_reads(t, p, name, log, deaf):
+    """A pipe whose reader has gone: the system ends the program, or, where that is turned off, a write fails."""
+    for via in (p.run, p.bin):
+        ours, theirs = os.pipe()
+        os.close(ours)
+        ended = via(name, stdin=log, stdout=theirs, settings=["deaf"] if deaf else [])
+        os.close(theirs)
+        clear = ended.failed_clearly() if via == p.run else ended.status not in (0, None) and ended.said != b""
+        t.check(f"{name}: nobody reads{', a write fails' if deaf else ''}", clear, ended.show)
+
+
+def slowly(t, p, name, whole, log):
+    """A reader that takes a few bytes at a time from a pipe with little room: nothing is lost. It takes the last of it at once."""
+    ours, theirs = os.pipe()
+    fcntl.fcntl(theirs, 1031, 4096)  # F_SETPIPE_SZ
+    got = []
+
+    def take():
+        with os.fdopen(ours, "rb", buffering=0) as pipe:
+            for size in (1, 2, 3, 7, 31, 1000, 4095):
+                got.extend(pipe.read(size) for _ in range(20))
+            got.append(b"".join(iter(lambda: pipe.read(999), b"")))
+
+    reader = threading.Thread(target=take)
+    reader.start()
+    ended = p.run(name, stdin=log, stdout=theirs)
+    os.close(theirs)
+    reader.join()
+    t.check(f"{name}: a slow reader gets all", ended.status == 0 and b"".join(got) == whole, ended.show)
+
+
+def memory(t, p, few=False):
+    """A line of a gigabyte, and a log of any length: refused or replayed in the memory that a short one takes."""
+    huge = 32 * MEGABYTE if few else p.huge
+    for digit in (b"0", b"\xff"):
+        line = lambda size: [b"01"] + [digit * MEGABYTE] * (size // MEGABYTE) + [b"\n01003020"]
+        base = p.watch("replay", line(MEGABYTE))
+        ended = p.watch("replay", line(huge), 4)
+        text = b"line 1: 7\n00000001000100000101000000\n"
+        t.check(f"replay: a line of {huge} bytes", ended.out == text and ended.status == 0, ended.show)
+        bounded(t, f"replay: a line of {huge} bytes", base, ended)
+        ended = p.watch("plate", line(huge), 4)
+        t.check(f"plate: a line of {huge} bytes", ended.out == b"line 1: 7\n" and ended.status == 0, ended.show)
+    piece = dusk(p) + b"\n".join(answers.logs.damaged_line(answers.logs.random.Random(i)) for i in range(20)) + b"\n"
+    for name, piece in (("replay", piece), ("plate", dusk(p))):
+        few_of_them, many = MEGABYTE // len(piece), (4 * MEGABYTE if few else p.long) // len(piece)
+        base = p.watch(name, [piece] * few_of_them)
+        ended = p.watch(name, [piece] * many, 4)
+        bounded(t, f"{name}: a log of {many * len(piece)} bytes", base, ended)
+        if p.oracle:
+            t.check(f"{name}: a log of {many * len(piece)} bytes", ended.out == p.watch_told(name, [piece] * many).out, ended.show)
+
+
+def bounded(t, what, base, ended):
+    told = f"{base.memory} kB after a megabyte, {ended.memory} kB after all"
+    t.check(f"{what}: memory stays", 0 < ended.memory <= base.memory + SPARE, lambda: told)
+    t.note(f"{what}: {told}")
+
+
+def words(t, p, few=False):
+    """What the commands in bin/ say to one who calls them wrongly, and that a picture is drawn whole or not at all."""
+    bin = lambda name: os.path.join(p.root, "bin", name)
+    with tempfile.TemporaryDirectory() as folder:
+        log, picture = os.path.join(folder, "a.log"), os.path.join(folder, "a.ppm")
+        for what, text, said in (
+            ("no argument", None, b"no log given"),
+            ("no such log", None, b"no log that can be read"),
+            ("a refused line", b"01\n01\n01 \n01\n", b"line 3 of the log is refused"),
+            ("an empty line", b"\n", b"line 1 of the log is refused"),
+        ):
+            if text:
+                with open(log, "wb") as file:
+                    file.write(text)
+            ended = p.call([bin("draw")] + ([] if what == "no argument" else [log, picture]))
+            t.check(f"bin/draw: {what}", ended.status not in (0, None) and said in ended.said, ended.show)
+            left = sorted(set(os.listdir(folder)) - {"a.log"})
+            t.check(f"bin/draw: {what}: no file is left", not left, lambda: str(left))
+        with open(picture, "wb") as file:
+            file.write(b"kept")
+        p.call([bin("draw"), log, picture])
+        t.check("bin/draw: a refused line: an older picture stays", open(picture, "rb").read() == b"kept")
+    for name in ("replay", "plate"):
+        ended = p.call([bin(name), "one", "two"])
+        t.check(f"bin/{name}: too many words", ended.status == 2 and b"usage" in ended.said, ended.show)
+        ended = p.call([bin(name)], env={"PATH": only("bash", "env", "dirname", "readlink", "uname"), "REPLAY": "", "PLATE": ""})
+        t.check(f"bin/{name}: no rt on the path", ended.status == 2 and b"no rt on the path" in ended.said, ended.show)
+    for what, text in (("half a plate", answers.BLANK[:-1025]), ("a word lost", answers.BLANK[4:]), ("no plate", b"\x89PNG"), ("nothing", b"")):
+        ended = p.call([bin("ppm")], stdin=text)
+        t.check(f"bin/ppm: {what}", ended.status == 1 and b"no plate" in ended.said and not ended.out, ended.show)
+    with open("/dev/full", "wb") as full:
+        ended = p.call([bin("ppm")], stdin=answers.BLANK, stdout=full)
+        t.check("bin/ppm: output is full", ended.status == 1 and b"write: " in ended.said, ended.show)
+
+
+FOLDERS = []
+
+
+def only(*names):
+    """A folder with just these tools, to stand as the path."""
+    folder = tempfile.TemporaryDirectory()
+    FOLDERS.append(folder)
+    for name in names:
+        found = subprocess.run(["sh", "-c", f"command -v {name}"], stdout=subprocess.PIPE, text=True).stdout.strip()
+        os.symlink(os.path.realpath(found), os.path.join(folder.name, name))
+    return folder.name
