@@ -1,5 +1,5 @@
 -- Every number that a call answers leaves the low byte of what crosses free: a mask mode, 256, 57,344, at most 1,820 writes.
-use Prim.Native.Nat.{ℕ, _*_, _<_}
+use Prim.Native.Nat.{ℕ, _<_}
 use native.Mathlib.Omega.{arith}
 use mathlib.Core.Path.{_≡_, sym, subst}
 use mathlib.Core.Bool.{true}

@@ -1,7 +1,6 @@
 // Each enum that a public call answers, as the number that crosses (specs/Coded).
 ghost use mathlib.Core.Path.{_≡_};
 ghost use Prim.Native.Nat.{_<_};
-ghost use mathlib.Core.Option.{some};
 ghost use Rattle.pulses.specs.Answer.{encodedAnswer, verdictAnswer};
 ghost use Rattle.unit.specs.Answers.{writtenTold, shownTold};
 ghost use Rattle.view.specs.Answers.{numberTold, colourTold, entryTold, borderTold};
