@@ -28,7 +28,6 @@ pub fn list() -> (String, Tally) {
     let mut text = String::from("round first writes screens looks block\n");
     let mut run = Run {
         unit: Oracle::new(),
-        command: [0; 112],
         tally: Tally::default(),
     };
     for round in 0..608 {
@@ -146,7 +145,6 @@ fn screen(from: u64) -> Vec<u8> {
 
 struct Run {
     unit: Oracle,
-    command: [u8; 112],
     tally: Tally,
 }
 
@@ -173,16 +171,15 @@ impl Run {
 
     fn send(&mut self, writes: &[u8], h: u64) -> u64 {
         self.tally.writes += writes.len();
-        writes.iter().fold(h, |h, w| self.write(*w, h))
-    }
-
-    fn write(&mut self, value: u8, h: u64) -> u64 {
-        let Some(done) = self.unit.write(value) else {
-            return number(h, 0u8);
-        };
-        self.tally.commands[usize::from(done[0] >> 3)] += 1;
-        self.command[..done.len()].copy_from_slice(&done);
-        bytes(number(h, done.len() as u64 / 16), &self.command)
+        let mut buffer = [0; 112];
+        writes.iter().fold(h, |h, w| {
+            let Some(command) = self.unit.write(*w) else {
+                return number(h, 0u8);
+            };
+            self.tally.commands[usize::from(command[0] >> 3)] += 1;
+            buffer[..command.len()].copy_from_slice(&command);
+            bytes(number(h, command.len() as u64 / 16), &buffer)
+        })
     }
 
     fn show(&mut self, round: usize, first: u8, mut h: u64) -> u64 {

@@ -12,18 +12,6 @@ mod writes;
 
 fn main() {
     let mut block = [0u8; 30020];
-    let mut command = [0u8; 112];
-    let mut sent = [0u8; 112];
-    let mut writes = [0u8; 1820];
-    let mut screen = [0u8; 5760];
-    let mut words = [0u16; 57344];
     io::write_all(STDOUT_FILENO, b"round first writes screens looks block\n");
-    rounds::all(
-        &mut block,
-        &mut command,
-        &mut sent,
-        &mut writes,
-        &mut screen,
-        &mut words,
-    );
+    rounds::all(&mut block);
 }

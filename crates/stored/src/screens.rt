@@ -7,15 +7,21 @@ use crate::digest::number;
 use transfer::pending::Landed;
 use unit::Shown;
 
-pub fn show(round: usize, first: u8, block: &mut [u8], screen: &mut [u8], h: u64) -> u64 {
-    let mut x = stream(round, 4);
-    let mut left = count(first >> 3, x);
+pub fn show(round: usize, first: u8, block: &mut [u8], h: u64) -> u64 {
+    let x = stream(round, 4);
+    let mut screen = [0u8; 5760];
+    update(count(first >> 3, x), x, block, &mut screen, h)
+}
+
+fn update(count: usize, from: u64, block: &mut [u8], screen: &mut [u8], h: u64) -> u64 {
+    let mut x = from;
     let mut d = h;
-    while left > 0 {
+    let mut i = 0;
+    while i < count {
         x = step(x);
         draw(screen, x);
         d = answer(d, unit::update_screen(block, screen));
-        left -= 1;
+        i += 1;
     }
     d
 }

@@ -11,38 +11,23 @@ use crate::digest::bytes;
 use crate::digest::number;
 use unit::Written;
 
-// The round's writes; answers the digest of all that they told.
-pub fn write(
-    round: usize,
-    first: u8,
-    block: &mut [u8],
-    command: &mut [u8],
-    sent: &mut [u8],
-    writes: &mut [u8],
-    h: u64,
-) -> u64
-    requires { ⌜ (length (now sent) ≡ 112) × (length (now writes) ≡ 1820) ⌝ }
-{
-    let d = transmit(round, first, block, command, sent, writes, h);
-    idle(round, block, command, writes, d)
+// The round's command.
+pub fn transmit(round: usize, first: u8, block: &mut [u8], h: u64) -> u64 {
+    let mut sent = [0u8; 112];
+    let mut writes = [0u8; 1820];
+    let n = pulses(round, first, &mut sent, &mut writes);
+    send(block, &writes[0..n], h)
 }
 
-fn transmit(
-    round: usize,
-    first: u8,
-    block: &mut [u8],
-    command: &mut [u8],
-    sent: &mut [u8],
-    writes: &mut [u8],
-    h: u64,
-) -> u64
+// Its pulses; answers how many.
+fn pulses(round: usize, first: u8, sent: &mut [u8], writes: &mut [u8]) -> usize
     requires { ⌜ (length (now sent) ≡ 112) × (length (now writes) ≡ 1820) ⌝ }
+    ensures { λ r. ⌜ r ≤ 1820 ⌝ }
 {
     let n = packets(first);
     make(stream(round, 1), first, &mut sent[0..16 * n]);
     encode(first, &sent[0..16 * n], writes);
-    let end = spoil(round, &mut writes[0..260 * n]);
-    send(block, &writes[0..end], command, h)
+    spoil(round, &mut writes[0..260 * n])
 }
 
 // As many packets as are sent: a command whose count is 0 takes one, too.
@@ -138,16 +123,15 @@ fn spoil(round: usize, writes: &mut [u8]) -> usize
 }
 
 // Lines at random, then polling, in which P15 rises at every fourth write.
-fn idle(round: usize, block: &mut [u8], command: &mut [u8], writes: &mut [u8], h: u64) -> u64
-    requires { ⌜ length (now writes) ≡ 1820 ⌝ }
-{
+pub fn idle(round: usize, block: &mut [u8], h: u64) -> u64 {
     let x = stream(round, 3);
     let n = lines(below(x, 64));
-    fill(&mut writes[0..n], x);
-    let d = send(block, &writes[0..n], command, h);
     let m = below(step(x), 65);
-    poll(&mut writes[0..m]);
-    send(block, &writes[0..m], command, d)
+    let mut writes = [0u8; 64];
+    fill(&mut writes, x);
+    let d = send(block, &writes[0..n], h);
+    poll(&mut writes);
+    send(block, &writes[0..m], d)
 }
 
 // None in every second round.
@@ -175,7 +159,13 @@ fn line(turn: usize) -> u8 {
     0x30
 }
 
-fn send(block: &mut [u8], writes: &[u8], command: &mut [u8], h: u64) -> u64 {
+// The digest of all that the writes tell.
+fn send(block: &mut [u8], writes: &[u8], h: u64) -> u64 {
+    let mut command = [0u8; 112];
+    write(block, writes, &mut command, h)
+}
+
+fn write(block: &mut [u8], writes: &[u8], command: &mut [u8], h: u64) -> u64 {
     let mut d = h;
     let mut i = 0;
     while i < writes.len() {
