@@ -27,14 +27,3 @@ pub fn below(x: u64, n: usize) -> usize
 {
     ((x >> 32) as usize) % n
 }
-
-// Noise.
-pub fn fill(out: &mut [u8], from: u64) {
-    let mut x = from;
-    let mut i = 0;
-    while i < out.len() {
-        x = step(x);
-        out[i] = byte(x);
-        i += 1;
-    }
-}

@@ -32,9 +32,8 @@ fn start(round: usize, block: &mut [u8]) {
 
 fn one(round: usize, block: &mut [u8]) {
     let first = first_of(round);
-    let sent = writes::transmit(round, first, block, SEED);
-    let told = writes::idle(round, block, sent);
-    let landed = screens::show(round, first, block, SEED);
+    let told = writes::write(round, first, block, SEED);
+    let landed = screens::show(round, block, SEED);
     let seen = looks::look(round, block, SEED);
     let whole = digest::bytes(SEED, block);
     tell(round, first, told, landed, seen, whole);

@@ -7,10 +7,11 @@ use crate::digest::number;
 use transfer::pending::Landed;
 use unit::Shown;
 
-pub fn show(round: usize, first: u8, block: &mut [u8], h: u64) -> u64 {
+// None to three of them, so that a transfer lands in its own round, in a later one, or is replaced before it does.
+pub fn show(round: usize, block: &mut [u8], h: u64) -> u64 {
     let x = stream(round, 4);
     let mut screen = [0u8; 5760];
-    update(count(first >> 3, x), x, block, &mut screen, h)
+    update(below(x, 4), x, block, &mut screen, h)
 }
 
 fn update(count: usize, from: u64, block: &mut [u8], screen: &mut [u8], h: u64) -> u64 {
@@ -24,14 +25,6 @@ fn update(count: usize, from: u64, block: &mut [u8], screen: &mut [u8], h: u64) 
         i += 1;
     }
     d
-}
-
-// After a transfer's command as many as make it land, or one less or more; after others none or one.
-fn count(code: u8, x: u64) -> usize {
-    match code {
-        0x0B | 0x13 | 0x14 | 0x15 => 2 + below(x, 3),
-        _ => below(x, 2),
-    }
 }
 
 fn draw(screen: &mut [u8], from: u64) {

@@ -4,30 +4,31 @@ ghost use Prim.Native.Nat.{_<_, _≤_};
 ghost use lib.ListN.{length};
 use crate::chance::below;
 use crate::chance::byte;
-use crate::chance::fill;
 use crate::chance::step;
 use crate::chance::stream;
 use crate::digest::bytes;
 use crate::digest::number;
 use unit::Written;
 
-// The round's command.
-pub fn transmit(round: usize, first: u8, block: &mut [u8], h: u64) -> u64 {
+// The digest of all that the round's writes tell.
+pub fn write(round: usize, first: u8, block: &mut [u8], h: u64) -> u64 {
     let mut sent = [0u8; 112];
-    let mut writes = [0u8; 1820];
-    let n = pulses(round, first, &mut sent, &mut writes);
-    send(block, &writes[0..n], h)
+    let mut writes = [0u8; 1916];
+    let n = plan(round, first, &mut sent, &mut writes);
+    let mut command = [0u8; 112];
+    send(block, &writes[0..n], &mut command, h)
 }
 
-// Its pulses; answers how many.
-fn pulses(round: usize, first: u8, sent: &mut [u8], writes: &mut [u8]) -> usize
-    requires { ⌜ (length (now sent) ≡ 112) × (length (now writes) ≡ 1820) ⌝ }
-    ensures { λ r. ⌜ r ≤ 1820 ⌝ }
+// The writes; answers how many.
+fn plan(round: usize, first: u8, sent: &mut [u8], writes: &mut [u8]) -> usize
+    requires { ⌜ (length (now sent) ≡ 112) × (length (now writes) ≡ 1916) ⌝ }
+    ensures { λ r. ⌜ r ≤ 1916 ⌝ }
 {
     let n = packets(first);
     make(stream(round, 1), first, &mut sent[0..16 * n]);
     encode(first, &sent[0..16 * n], writes);
-    spoil(round, &mut writes[0..260 * n])
+    let end = spoil(round, &mut writes[0..260 * n]);
+    end + idle(stream(round, 3), &mut writes[end..end + 96])
 }
 
 // As many packets as are sent: a command whose count is 0 takes one, too.
@@ -93,7 +94,7 @@ fn mask(code: u8, i: usize) -> u8 {
 
 // The pulses of the command; a count of 0 is that of 1 with its one bit cleared.
 fn encode(first: u8, d: &[u8], writes: &mut [u8])
-    requires { ⌜ length (now writes) ≡ 1820 ⌝ }
+    requires { ⌜ length (now writes) ≡ 1916 ⌝ }
 {
     pulses::encode(d, writes);
     if empty(first) {
@@ -106,66 +107,60 @@ fn spoil(round: usize, writes: &mut [u8]) -> usize
     requires { ⌜ 0 < length (now writes) ⌝ }
     ensures { λ r. ⌜ r ≤ length (now (writes .entry)) ⌝ }
 {
-    if round < 512 {
-        return writes.len();
-    }
-    if round % 2 == 1 {
-        return writes.len();
+    let n = writes.len();
+    if sound(round) {
+        return n;
     }
     let x = stream(round, 2);
-    let at = below(x, writes.len());
+    let at = below(x, n);
     let how = byte(x) & 0x30;
     if how == 0 {
         return at;
     }
     writes[at] ^= how;
-    writes.len()
+    n
 }
 
-// Lines at random, then polling, in which P15 rises at every fourth write.
-pub fn idle(round: usize, block: &mut [u8], h: u64) -> u64 {
-    let x = stream(round, 3);
-    let n = lines(below(x, 64));
-    let m = below(step(x), 65);
-    let mut writes = [0u8; 64];
-    fill(&mut writes, x);
-    let d = send(block, &writes[0..n], h);
-    poll(&mut writes);
-    send(block, &writes[0..m], d)
+fn sound(round: usize) -> bool {
+    if round < 512 {
+        return true;
+    }
+    round % 2 == 1
 }
 
-// None in every second round.
+// Lines at random, none in every second round; then polling, in which P15 rises at every fourth write. Answers how many.
+fn idle(from: u64, out: &mut [u8]) -> usize
+    ensures { λ r. ⌜ r ≤ 96 ⌝ }
+{
+    let noisy = lines(below(from, 64));
+    let mut x = from;
+    let mut i = 0;
+    while i < out.len() {
+        x = step(x);
+        out[i] = wait(i, noisy, byte(x));
+        i += 1;
+    }
+    noisy + below(x, 65)
+}
+
 fn lines(n: usize) -> usize
     ensures { λ r. ⌜ r < 32 ⌝ }
 {
     if n < 32 { n } else { 0 }
 }
 
-fn poll(writes: &mut [u8]) {
-    let mut i = 0;
-    while i < writes.len() {
-        writes[i] = line(i % 4);
-        i += 1;
+fn wait(i: usize, noisy: usize, noise: u8) -> u8 {
+    if i < noisy {
+        return noise;
+    }
+    match i % 4 {
+        1 => 0x20,
+        2 => 0x10,
+        _ => 0x30,
     }
 }
 
-fn line(turn: usize) -> u8 {
-    if turn == 1 {
-        return 0x20;
-    }
-    if turn == 2 {
-        return 0x10;
-    }
-    0x30
-}
-
-// The digest of all that the writes tell.
-fn send(block: &mut [u8], writes: &[u8], h: u64) -> u64 {
-    let mut command = [0u8; 112];
-    write(block, writes, &mut command, h)
-}
-
-fn write(block: &mut [u8], writes: &[u8], command: &mut [u8], h: u64) -> u64 {
+fn send(block: &mut [u8], writes: &[u8], command: &mut [u8], h: u64) -> u64 {
     let mut d = h;
     let mut i = 0;
     while i < writes.len() {

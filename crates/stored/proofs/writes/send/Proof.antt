@@ -3,8 +3,8 @@ use mathlib.Core.Path.{_≡_}
 use Prim.Native.Nat.{_≤_, _-_}
 use borrow.Author.Needs.{needs}
 use lib.ListN.{length}
-use Rattle.stored.proofs.writes.write.Statement.{statement}
-use Rattle.stored.proofs.writes.write.Tie as tie
+use Rattle.stored.proofs.writes.send.Statement.{statement}
+use Rattle.stored.proofs.writes.send.Tie as tie
 
 abbrev Inv-loop : tie.InvT-loop
 Inv-loop block₀ writes command₀ h d₀ i₀ block command d i = (i ≤ length writes) × ((length block ≡ length block₀) × (length command ≡ length command₀))
@@ -42,8 +42,8 @@ same-length-2 c = search needs
 returns : tie.Need-returns Inv-loop μ-loop
 returns c = search needs
 
-pub write-spec : {M : Type 1} → statement M
-write-spec =
+pub send-spec : {M : Type 1} → statement M
+send-spec =
     tie.close
     (tie.spec
     Inv-loop
