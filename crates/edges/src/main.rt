@@ -1,12 +1,13 @@
-// Document 01's worked examples, run: one module a topic. What is written is compared with the file `stdout`.
-mod packets;
+// Document 01's worked examples, run on the unit by its public calls: one module a topic. What is written is compared with the file
+// `stdout`. Places in the block are document 01's numbers, so that they stand here apart from the crates that are run.
+mod maps;
+mod replays;
 mod screens;
+mod text;
 
 fn main() {
-    let mut store = [0u8; 112];
-    let mut pulses = [0u8; 260];
-    packets::examples(&mut store, &mut pulses);
-    let mut screen = [0u8; 5760];
-    let mut tiles = [0u8; 4096];
-    screens::examples(&mut screen, &mut tiles);
+    let mut block = [0u8; 30020];
+    replays::examples(&mut block);
+    maps::examples(&mut block);
+    screens::examples(&mut block);
 }

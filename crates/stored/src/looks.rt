@@ -1,10 +1,10 @@
 // The calls that only look: the mask, the backdrop, single colours and map words, a row, and at every fourth round the picture.
-use crate::chance::below;
-use crate::chance::byte;
-use crate::chance::step;
-use crate::chance::stream;
 use crate::digest::number;
 use crate::digest::words;
+use seeds::below;
+use seeds::byte;
+use seeds::step;
+use seeds::stream;
 
 pub fn look(round: usize, block: &[u8], h: u64) -> u64 {
     let x = stream(round, 5);

@@ -1,9 +1,8 @@
-// The stored list of the Rust's answers, run: what is written is compared with the file `stdout`, which the Rust made by the same
-// rounds (tools/oracle/stored.rs, and its README on how). So the port is held to the Rust where the Rust is not at hand.
-// A round sends a command, idles, shows screens, looks, and writes one line: a digest of each kind of answer and of the whole block.
+// The stored list of the Rust's answers, run. What is written is compared with the file `stdout`, which the Rust made by the same
+// rounds (tools/oracle/README.md says how), so the port is held to the Rust where the Rust is not at hand. A round sends, shows and
+// looks, and writes one line: its number, the first byte of its command, a digest of each kind of answer, and one of the whole block.
 use libc::STDOUT_FILENO;
 
-mod chance;
 mod digest;
 mod looks;
 mod rounds;

@@ -1,14 +1,13 @@
 // The rounds. Of the first 512 every second one sends a command of another first byte, so that each code comes with each count; those
 // between send one packet of a code that does something, so that there is a border to draw, files to take, and a mask that ends again.
 // The last 96 are alike, with a fault in every second. The unit starts anew four times.
-use crate::chance::SEED;
-use crate::chance::byte;
-use crate::chance::stream;
 use crate::digest;
 use crate::looks;
 use crate::screens;
 use crate::writes;
 use libc::STDOUT_FILENO;
+use seeds::SEED;
+use seeds::writes::first_of;
 
 pub fn all(block: &mut [u8]) {
     let mut round = 0;
@@ -37,18 +36,6 @@ fn one(round: usize, block: &mut [u8]) {
     let seen = looks::look(round, block, SEED);
     let whole = digest::bytes(SEED, block);
     tell(round, first, told, landed, seen, whole);
-}
-
-// Each byte once, in an order in which neighbours differ in their code; later any code with one packet or three.
-fn first_of(round: usize) -> u8 {
-    let any = byte(stream(round, 0));
-    if round % 2 == 1 {
-        return any % 24 * 8 + 1;
-    }
-    if round < 512 {
-        return (round / 2 * 77 % 256) as u8;
-    }
-    any & 0xFB | 1
 }
 
 fn tell(round: usize, first: u8, writes: u64, screens: u64, looks: u64, block: u64) {

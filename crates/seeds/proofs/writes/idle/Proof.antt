@@ -3,8 +3,8 @@ use mathlib.Core.Path.{_≡_}
 use Prim.Native.Nat.{_≤_, _-_}
 use borrow.Author.Needs.{needs}
 use lib.ListN.{length}
-use Rattle.stored.proofs.writes.idle.Statement.{statement}
-use Rattle.stored.proofs.writes.idle.Tie as tie
+use Rattle.seeds.proofs.writes.idle.Statement.{statement}
+use Rattle.seeds.proofs.writes.idle.Tie as tie
 
 abbrev Inv-loop : tie.InvT-loop
 Inv-loop from out₀ noisy x₀ i₀ out x i = (i ≤ length out₀) × (length out ≡ length out₀)
