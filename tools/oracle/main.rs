@@ -73,7 +73,9 @@ fn options() -> Options {
 }
 
 fn usage(word: &str) -> ! {
-    eprintln!("diff: {word}?\nusage: diff [--seed N] [--scale K] [--suite NAME].. [--list] [--stored]");
+    eprintln!(
+        "diff: {word}?\nusage: diff [--seed N] [--scale K] [--suite NAME].. [--list] [--stored]"
+    );
     std::process::exit(2);
 }
 

@@ -28,7 +28,6 @@ pub fn list() -> (String, Tally) {
     let mut text = String::from("round first writes screens looks block\n");
     let mut run = Run {
         unit: Oracle::new(),
-        command: [0; 112],
         tally: Tally::default(),
     };
     for round in 0..608 {
@@ -39,9 +38,8 @@ pub fn list() -> (String, Tally) {
             };
         }
         let first = first_of(round);
-        let writes = run.transmit(round, first, SEED);
-        let writes = run.idle(round, writes);
-        let screens = run.show(round, first, SEED);
+        let writes = run.write(round, first, SEED);
+        let screens = run.show(round, SEED);
         let looks = run.look(round, SEED);
         let block = bytes(SEED, &run.unit.save());
         let digests = format!("{writes:016x} {screens:016x} {looks:016x} {block:016x}");
@@ -132,6 +130,22 @@ fn spoil(round: usize, writes: &mut Vec<u8>) {
     }
 }
 
+fn idle(from: u64) -> Vec<u8> {
+    let noisy = match below(from, 64) {
+        n @ 0..32 => n,
+        _ => 0,
+    };
+    let mut writes = noise(from, 96, |i, b| match i % 4 {
+        _ if i < noisy => b,
+        1 => 0x20,
+        2 => 0x10,
+        _ => 0x30,
+    });
+    let last = (0..96).fold(from, |x, _| step(x));
+    writes.truncate(noisy + below(last, 65));
+    writes
+}
+
 fn screen(from: u64) -> Vec<u8> {
     let flat = byte(from);
     noise(from, SCREEN_LEN, |i, b| match flat {
@@ -146,51 +160,35 @@ fn screen(from: u64) -> Vec<u8> {
 
 struct Run {
     unit: Oracle,
-    command: [u8; 112],
     tally: Tally,
 }
 
 impl Run {
-    fn transmit(&mut self, round: usize, first: u8, h: u64) -> u64 {
+    fn write(&mut self, round: usize, first: u8, h: u64) -> u64 {
         let mut writes = encode(&command(stream(round, 1), first));
         if round >= 512 && round % 2 == 0 {
             spoil(round, &mut writes);
         }
+        writes.extend(idle(stream(round, 3)));
         self.send(&writes, h)
-    }
-
-    fn idle(&mut self, round: usize, h: u64) -> u64 {
-        let x = stream(round, 3);
-        let lines = match below(x, 64) {
-            n @ 0..32 => n,
-            _ => 0,
-        };
-        let h = self.send(&noise(x, lines, |_, b| b), h);
-        let polls = [0x30, 0x20, 0x10, 0x30].into_iter().cycle();
-        let polls: Vec<u8> = polls.take(below(step(x), 65)).collect();
-        self.send(&polls, h)
     }
 
     fn send(&mut self, writes: &[u8], h: u64) -> u64 {
         self.tally.writes += writes.len();
-        writes.iter().fold(h, |h, w| self.write(*w, h))
+        let mut buffer = [0; 112];
+        writes.iter().fold(h, |h, w| {
+            let Some(command) = self.unit.write(*w) else {
+                return number(h, 0u8);
+            };
+            self.tally.commands[usize::from(command[0] >> 3)] += 1;
+            buffer[..command.len()].copy_from_slice(&command);
+            bytes(number(h, command.len() as u64 / 16), &buffer)
+        })
     }
 
-    fn write(&mut self, value: u8, h: u64) -> u64 {
-        let Some(done) = self.unit.write(value) else {
-            return number(h, 0u8);
-        };
-        self.tally.commands[usize::from(done[0] >> 3)] += 1;
-        self.command[..done.len()].copy_from_slice(&done);
-        bytes(number(h, done.len() as u64 / 16), &self.command)
-    }
-
-    fn show(&mut self, round: usize, first: u8, mut h: u64) -> u64 {
+    fn show(&mut self, round: usize, mut h: u64) -> u64 {
         let mut x = stream(round, 4);
-        let count = match first >> 3 {
-            0x0B | 0x13 | 0x14 | 0x15 => 2 + below(x, 3),
-            _ => below(x, 2),
-        };
+        let count = below(x, 4);
         self.tally.screens += count;
         for _ in 0..count {
             x = step(x);

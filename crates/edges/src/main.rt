@@ -1,12 +1,13 @@
-// Document 01's worked examples, run: one module a topic. What is written is compared with the file `stdout`.
-mod packets;
+// Document 01's worked examples, run on the unit by its public calls: one module a topic. What is written is compared with the file
+// `stdout`.
+mod maps;
+mod replays;
 mod screens;
+mod text;
 
 fn main() {
-    let mut store = [0u8; parts::STORE_BYTES];
-    let mut pulses = [0u8; 260];
-    packets::examples(&mut store, &mut pulses);
-    let mut screen = [0u8; parts::CAPTURE_BYTES];
-    let mut tiles = [0u8; parts::HALF_BYTES];
-    screens::examples(&mut screen, &mut tiles);
+    let mut block = [0u8; parts::BLOCK];
+    replays::examples(&mut block);
+    maps::examples(&mut block);
+    screens::examples(&mut block);
 }

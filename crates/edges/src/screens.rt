@@ -1,46 +1,57 @@
 // Screens: document 01, Pairs on each edge, "a transfer lands at the third screen".
 ghost use mathlib.Core.Path.{_≡_};
+ghost use Rattle.parts.specs.Parts.{blockBytes};
 ghost use lib.ListN.{length};
-ghost use Rattle.parts.specs.Parts.{captureBytes, halfBytes};
+use crate::replays::command;
+use crate::text;
 use libc::STDOUT_FILENO;
 use transfer::pending::Landed;
-use transfer::pending::Pending;
-use transfer::pending::Transfer;
+use unit::Shown;
 
 // CHR_TRN to the upper half, and three screens whose first eight pixels are 0 1 2 3 0 1 2 3: planes 55 and 33.
-pub fn examples(screen: &mut [u8], part: &mut [u8])
-    requires { ⌜ (length (now screen) ≡ captureBytes) × (length (now part) ≡ halfBytes) ⌝ }
+pub fn examples(block: &mut [u8])
+    requires { ⌜ length (now block) ≡ blockBytes ⌝ }
 {
+    command(
+        &[0x99, 0x01, 0, 0, 0, 0, 0, 0, 0, 0, 0, 0, 0, 0, 0, 0],
+        block,
+    );
+    let mut screen = [0u8; parts::CAPTURE_BYTES];
     screen[0] = 0x1B;
     screen[1] = 0x1B;
-    let sent = Pending::In {
-        countdown: 3,
-        transfer: Transfer::BorderTiles { upper_half: true },
-    };
-    let second = show(sent, screen, part);
-    let third = show(second, screen, part);
-    show(third, screen, part);
+    show(&screen, block);
+    show(&screen, block);
+    show(&screen, block);
 }
 
-// What lands, and what the part then starts with.
-fn show(pending: Pending, screen: &[u8], part: &mut [u8]) -> Pending
-    requires { ⌜ (length (now screen) ≡ captureBytes) × (length (now part) ≡ halfBytes) ⌝ }
+// What lands, and what the upper half of the tiles then starts with.
+fn show(screen: &[u8], block: &mut [u8])
+    requires { ⌜ length (now block) ≡ blockBytes ⌝ }
 {
-    let Landed::Page(transfer) = pending.landing() else {
-        io::write_all(STDOUT_FILENO, b"nothing lands, the part starts ");
-        print_word(part[0], part[1]);
-        return pending.screened();
-    };
-    transfer::landing::land_tiles(part, screen);
-    io::write_all(STDOUT_FILENO, b"kind ");
-    io::print_decimal(STDOUT_FILENO, transfer.number() as u64);
-    io::write_all(STDOUT_FILENO, b" lands, the part starts ");
-    print_word(part[0], part[1]);
-    pending.screened()
+    tell(unit::update_screen(block, screen));
+    text::line(&block[parts::UPPER_TILES..parts::UPPER_TILES + 2]);
 }
 
-fn print_word(first: u8, second: u8) {
-    io::print_hex(STDOUT_FILENO, bits::wide(first) as u64, 2);
-    io::print_hex(STDOUT_FILENO, bits::wide(second) as u64, 2);
-    io::write_all(STDOUT_FILENO, b"\n");
+fn tell(told: Shown) {
+    match told {
+        Shown::Refused(n) => {
+            io::write_all(STDOUT_FILENO, b"refused ");
+            io::print_decimal(STDOUT_FILENO, n as u64);
+        }
+        Shown::Took(landed) => name(landed),
+    }
+    io::write_all(STDOUT_FILENO, b", the part starts ");
+}
+
+fn name(landed: Landed) {
+    match landed {
+        Landed::Nothing => {
+            io::write_all(STDOUT_FILENO, b"nothing lands");
+        }
+        Landed::Page(transfer) => {
+            io::write_all(STDOUT_FILENO, b"kind ");
+            io::print_decimal(STDOUT_FILENO, transfer.number() as u64);
+            io::write_all(STDOUT_FILENO, b" lands");
+        }
+    }
 }

@@ -1,5 +1,5 @@
-// Digests: a step of `chance` for each number. It can be undone, so that a difference never gets lost by itself.
-use crate::chance::step;
+// Digests: a step of chance for each number. It can be undone, so that a difference never gets lost by itself.
+use seeds::step;
 
 pub fn number(h: u64, v: u64) -> u64 {
     step(h ^ v)

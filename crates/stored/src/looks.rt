@@ -1,26 +1,18 @@
 // The calls that only look: the mask, the backdrop, single colours and map words, a row, and at every fourth round the picture.
-ghost use mathlib.Core.Path.{_≡_};
-ghost use lib.ListN.{length};
-use crate::chance::below;
-use crate::chance::byte;
-use crate::chance::step;
-use crate::chance::stream;
 use crate::digest::number;
 use crate::digest::words;
+use seeds::below;
+use seeds::byte;
+use seeds::step;
+use seeds::stream;
 
-pub fn look(round: usize, block: &[u8], out: &mut [u16], h: u64) -> u64
-    requires { ⌜ length (now out) ≡ 57344 ⌝ }
-{
+pub fn look(round: usize, block: &[u8], h: u64) -> u64 {
     let x = stream(round, 5);
     let a = counted(h, view::mask_mode(block));
     let b = colour(a, view::backdrop(block));
     let c = some(b, block, x);
-    let d = row(c, block, below(x, 224), out);
-    if round % 4 == 3 {
-        picture(d, block, out)
-    } else {
-        d
-    }
+    let d = row(c, block, below(x, 224));
+    if round % 4 == 3 { picture(d, block) } else { d }
 }
 
 fn some(h: u64, block: &[u8], from: u64) -> u64 {
@@ -50,16 +42,16 @@ fn at(h: u64, block: &[u8], x: u64) -> u64 {
     )
 }
 
-fn row(h: u64, block: &[u8], y: usize, out: &mut [u16]) -> u64
-    requires { ⌜ length (now out) ≡ 57344 ⌝ }
-{
-    let d = counted(h, view::row(block, y, out));
-    words(d, &out[0..256])
+fn row(h: u64, block: &[u8], y: usize) -> u64 {
+    let mut out = [0u16; 256];
+    let d = counted(h, view::row(block, y, &mut out));
+    words(d, &out)
 }
 
-fn picture(h: u64, block: &[u8], out: &mut [u16]) -> u64 {
-    let d = counted(h, view::picture(block, out));
-    words(d, out)
+fn picture(h: u64, block: &[u8]) -> u64 {
+    let mut out = [0u16; 57344];
+    let d = counted(h, view::picture(block, &mut out));
+    words(d, &out)
 }
 
 // A refusal n is 0x80000000 + n, which no answer is.

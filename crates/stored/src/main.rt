@@ -1,9 +1,8 @@
-// The stored list of the Rust's answers, run: what is written is compared with the file `stdout`, which the Rust made by the same
-// rounds (tools/oracle/stored.rs, and its README on how). So the port is held to the Rust where the Rust is not at hand.
-// A round sends a command, idles, shows screens, looks, and writes one line: a digest of each kind of answer and of the whole block.
+// The stored list of the Rust's answers, run. What is written is compared with the file `stdout`, which the Rust made by the same
+// rounds (tools/oracle/README.md says how), so the port is held to the Rust where the Rust is not at hand. A round sends, shows and
+// looks, and writes one line: its number, the first byte of its command, a digest of each kind of answer, and one of the whole block.
 use libc::STDOUT_FILENO;
 
-mod chance;
 mod digest;
 mod looks;
 mod rounds;
@@ -11,19 +10,7 @@ mod screens;
 mod writes;
 
 fn main() {
-    let mut block = [0u8; 30020];
-    let mut command = [0u8; 112];
-    let mut sent = [0u8; 112];
-    let mut writes = [0u8; 1820];
-    let mut screen = [0u8; 5760];
-    let mut words = [0u16; 57344];
+    let mut block = [0u8; parts::BLOCK];
     io::write_all(STDOUT_FILENO, b"round first writes screens looks block\n");
-    rounds::all(
-        &mut block,
-        &mut command,
-        &mut sent,
-        &mut writes,
-        &mut screen,
-        &mut words,
-    );
+    rounds::all(&mut block);
 }

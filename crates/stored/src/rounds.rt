@@ -1,26 +1,20 @@
 // The rounds. Of the first 512 every second one sends a command of another first byte, so that each code comes with each count; those
 // between send one packet of a code that does something, so that there is a border to draw, files to take, and a mask that ends again.
 // The last 96 are alike, with a fault in every second. The unit starts anew four times.
-ghost use mathlib.Core.Path.{_≡_};
-ghost use lib.ListN.{length};
-use crate::chance::SEED;
-use crate::chance::byte;
-use crate::chance::stream;
+use crate::digest;
+use crate::looks;
+use crate::screens;
+use crate::writes;
 use libc::STDOUT_FILENO;
+use seeds::SEED;
+use seeds::writes::first_of;
 
-pub fn all(
-    block: &mut [u8],
-    command: &mut [u8],
-    sent: &mut [u8],
-    writes: &mut [u8],
-    screen: &mut [u8],
-    words: &mut [u16],
-)
-    requires { ⌜ (length (now sent) ≡ 112) × (length (now writes) ≡ 1820) × (length (now words) ≡ 57344) ⌝ }
-{
-    for round in 0..608 {
+pub fn all(block: &mut [u8]) {
+    let mut round = 0;
+    while round < 608 {
         start(round, block);
-        one(round, block, command, sent, writes, screen, words);
+        one(round, block);
+        round += 1;
     }
 }
 
@@ -35,35 +29,13 @@ fn start(round: usize, block: &mut [u8]) {
     }
 }
 
-fn one(
-    round: usize,
-    block: &mut [u8],
-    command: &mut [u8],
-    sent: &mut [u8],
-    writes: &mut [u8],
-    screen: &mut [u8],
-    words: &mut [u16],
-)
-    requires { ⌜ (length (now sent) ≡ 112) × (length (now writes) ≡ 1820) × (length (now words) ≡ 57344) ⌝ }
-{
+fn one(round: usize, block: &mut [u8]) {
     let first = first_of(round);
-    let told = crate::writes::write(round, first, block, command, sent, writes, SEED);
-    let landed = crate::screens::show(round, first, block, screen, SEED);
-    let seen = crate::looks::look(round, block, words, SEED);
-    let whole = crate::digest::bytes(SEED, block);
+    let told = writes::write(round, first, block, SEED);
+    let landed = screens::show(round, block, SEED);
+    let seen = looks::look(round, block, SEED);
+    let whole = digest::bytes(SEED, block);
     tell(round, first, told, landed, seen, whole);
-}
-
-// Each byte once, in an order in which neighbours differ in their code; later any code with one packet or three.
-fn first_of(round: usize) -> u8 {
-    let any = byte(stream(round, 0));
-    if round % 2 == 1 {
-        return any % 24 * 8 + 1;
-    }
-    if round < 512 {
-        return (round / 2 * 77 % 256) as u8;
-    }
-    any & 0xFB | 1
 }
 
 fn tell(round: usize, first: u8, writes: u64, screens: u64, looks: u64, block: u64) {

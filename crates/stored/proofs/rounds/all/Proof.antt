@@ -1,4 +1,4 @@
--- Each round keeps the lengths of the lent buffers.
+-- The rounds come to an end.
 use mathlib.Core.Path.{_≡_}
 use Prim.Native.Nat.{_≤_, _-_}
 use borrow.Author.Needs.{needs}
@@ -7,10 +7,10 @@ use Rattle.stored.proofs.rounds.all.Statement.{statement}
 use Rattle.stored.proofs.rounds.all.Tie as tie
 
 abbrev Inv-loop : tie.InvT-loop
-Inv-loop block₀ command₀ sent₀ writes₀ screen₀ words₀ round₀ block command sent writes screen words round = ((round ≤ 608) × ((length block ≡ length block₀) × (length command ≡ length command₀))) × (((length sent ≡ length sent₀) × (length writes ≡ length writes₀)) × ((length screen ≡ length screen₀) × (length words ≡ length words₀)))
+Inv-loop block₀ round₀ block round = (round ≤ 608) × (length block ≡ length block₀)
 
 abbrev μ-loop : tie.MeasureT-loop
-μ-loop block₀ command₀ sent₀ writes₀ screen₀ words₀ round₀ block command sent writes screen words round = 608 - round
+μ-loop block₀ round₀ block round = 608 - round
 
 loop-holds : tie.Need-loop-holds Inv-loop μ-loop
 loop-holds c = search needs
@@ -33,21 +33,6 @@ loop-again c = search needs
 same-length : tie.Need-same-length Inv-loop μ-loop
 same-length c = search needs
 
-same-length-2 : tie.Need-same-length-2 Inv-loop μ-loop
-same-length-2 c = search needs
-
-same-length-3 : tie.Need-same-length-3 Inv-loop μ-loop
-same-length-3 c = search needs
-
-same-length-4 : tie.Need-same-length-4 Inv-loop μ-loop
-same-length-4 c = search needs
-
-same-length-5 : tie.Need-same-length-5 Inv-loop μ-loop
-same-length-5 c = search needs
-
-same-length-6 : tie.Need-same-length-6 Inv-loop μ-loop
-same-length-6 c = search needs
-
 returns : tie.Need-returns Inv-loop μ-loop
 returns c = search needs
 
@@ -64,9 +49,4 @@ all-spec =
     loop-less
     loop-again
     same-length
-    same-length-2
-    same-length-3
-    same-length-4
-    same-length-5
-    same-length-6
     returns)

@@ -3,8 +3,8 @@ use mathlib.Core.Path.{_≡_}
 use Prim.Native.Nat.{_≤_, _-_}
 use borrow.Author.Needs.{needs}
 use lib.ListN.{length}
-use Rattle.stored.proofs.writes.make.Statement.{statement}
-use Rattle.stored.proofs.writes.make.Tie as tie
+use Rattle.seeds.proofs.writes.make.Statement.{statement}
+use Rattle.seeds.proofs.writes.make.Tie as tie
 
 abbrev Inv-loop : tie.InvT-loop
 Inv-loop from first d₀ shaped x₀ i₀ d x i = (i ≤ length d₀) × (length d ≡ length d₀)

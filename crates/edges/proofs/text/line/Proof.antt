@@ -1,28 +1,24 @@
 -- The index stays within the slice.
-use mathlib.Core.Path.{_≡_}
 use Prim.Native.Nat.{_≤_, _-_}
 use borrow.Author.Needs.{needs}
 use lib.ListN.{length}
-use Rattle.stored.proofs.chance.fill.Statement.{statement}
-use Rattle.stored.proofs.chance.fill.Tie as tie
+use Rattle.edges.proofs.text.line.Statement.{statement}
+use Rattle.edges.proofs.text.line.Tie as tie
 
 abbrev Inv-loop : tie.InvT-loop
-Inv-loop out₀ from x₀ i₀ out x i = (i ≤ length out₀) × (length out ≡ length out₀)
+Inv-loop s i₀ t3 i = i ≤ length s
 
 abbrev μ-loop : tie.MeasureT-loop
-μ-loop out₀ from x₀ i₀ out x i = length out₀ - i
+μ-loop s i₀ t3 i = length s - i
 
 loop-holds : tie.Need-loop-holds Inv-loop μ-loop
 loop-holds c = search needs
 
-step-requires : tie.Need-step-requires Inv-loop μ-loop
-step-requires c κs = search needs
+shared-slice-read-byte : tie.Need-shared-slice-read-byte Inv-loop μ-loop
+shared-slice-read-byte c = search needs
 
 byte-requires : tie.Need-byte-requires Inv-loop μ-loop
 byte-requires c κs = search needs
-
-slice-write-out : tie.Need-slice-write-out Inv-loop μ-loop
-slice-write-out c = search needs
 
 add-i : tie.Need-add-i Inv-loop μ-loop
 add-i c = search needs
@@ -33,24 +29,27 @@ loop-less c = search needs
 loop-again : tie.Need-loop-again Inv-loop μ-loop
 loop-again c = search needs
 
-same-length : tie.Need-same-length Inv-loop μ-loop
-same-length c = search needs
+slice-aggregate-write-all : tie.Need-slice-aggregate-write-all Inv-loop μ-loop
+slice-aggregate-write-all c = search needs
+
+write-all-requires : tie.Need-write-all-requires Inv-loop μ-loop
+write-all-requires c κs = search needs
 
 returns : tie.Need-returns Inv-loop μ-loop
 returns c = search needs
 
-pub fill-spec : {M : Type 1} → statement M
-fill-spec =
+pub line-spec : {M : Type 1} → statement M
+line-spec =
     tie.close
     (tie.spec
     Inv-loop
     μ-loop
     loop-holds
-    step-requires
+    shared-slice-read-byte
     byte-requires
-    slice-write-out
     add-i
     loop-less
     loop-again
-    same-length
+    slice-aggregate-write-all
+    write-all-requires
     returns)

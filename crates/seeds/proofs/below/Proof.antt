@@ -2,8 +2,8 @@
 use native.Mathlib.Nat.{mod-lt}
 use native.Mathlib.Omega.{arith}
 use borrow.Author.Needs.{needs}
-use Rattle.stored.proofs.chance.below.Statement.{statement}
-use Rattle.stored.proofs.chance.below.Tie as tie
+use Rattle.seeds.proofs.below.Statement.{statement}
+use Rattle.seeds.proofs.below.Tie as tie
 
 rem-result : tie.Need-rem-result
 rem-result c = search needs

@@ -3,8 +3,8 @@ use mathlib.Core.Path.{_≡_}
 use Prim.Native.Nat.{_≤_, _-_}
 use borrow.Author.Needs.{needs}
 use lib.ListN.{length}
-use Rattle.stored.proofs.screens.draw.Statement.{statement}
-use Rattle.stored.proofs.screens.draw.Tie as tie
+use Rattle.seeds.proofs.screens.draw.Statement.{statement}
+use Rattle.seeds.proofs.screens.draw.Tie as tie
 
 abbrev Inv-loop : tie.InvT-loop
 Inv-loop screen₀ from flat x₀ i₀ screen x i = (i ≤ length screen₀) × (length screen ≡ length screen₀)

@@ -1,21 +1,16 @@
--- The screens that are left grow fewer.
+-- The count is reached.
 use mathlib.Core.Path.{_≡_}
+use Prim.Native.Nat.{_≤_, _-_}
 use borrow.Author.Needs.{needs}
 use lib.ListN.{length}
-use Rattle.stored.proofs.screens.show.Statement.{statement}
-use Rattle.stored.proofs.screens.show.Tie as tie
+use Rattle.stored.proofs.screens.update.Statement.{statement}
+use Rattle.stored.proofs.screens.update.Tie as tie
 
 abbrev Inv-loop : tie.InvT-loop
-Inv-loop round first block₀ screen₀ h x₀ left₀ d₀ block screen x left d = (length block ≡ length block₀) × (length screen ≡ length screen₀)
+Inv-loop count from block₀ screen₀ h x₀ d₀ i₀ block screen x d i = (i ≤ count) × ((length block ≡ length block₀) × (length screen ≡ length screen₀))
 
 abbrev μ-loop : tie.MeasureT-loop
-μ-loop round first block₀ screen₀ h x₀ left₀ d₀ block screen x left d = left
-
-stream-requires : tie.Need-stream-requires Inv-loop μ-loop
-stream-requires c κs = search needs
-
-count-requires : tie.Need-count-requires Inv-loop μ-loop
-count-requires c κs = search needs
+μ-loop count from block₀ screen₀ h x₀ d₀ i₀ block screen x d i = count - i
 
 loop-holds : tie.Need-loop-holds Inv-loop μ-loop
 loop-holds c = search needs
@@ -32,8 +27,8 @@ update-screen-requires c κs = search needs
 answer-requires : tie.Need-answer-requires Inv-loop μ-loop
 answer-requires c κs = search needs
 
-sub-left : tie.Need-sub-left Inv-loop μ-loop
-sub-left c = search needs
+add-i : tie.Need-add-i Inv-loop μ-loop
+add-i c = search needs
 
 loop-less : tie.Need-loop-less Inv-loop μ-loop
 loop-less c = search needs
@@ -50,20 +45,18 @@ same-length-2 c = search needs
 returns : tie.Need-returns Inv-loop μ-loop
 returns c = search needs
 
-pub show-spec : {M : Type 1} → statement M
-show-spec =
+pub update-spec : {M : Type 1} → statement M
+update-spec =
     tie.close
     (tie.spec
     Inv-loop
     μ-loop
-    stream-requires
-    count-requires
     loop-holds
     step-requires
     draw-requires
     update-screen-requires
     answer-requires
-    sub-left
+    add-i
     loop-less
     loop-again
     same-length

@@ -1,5 +1,10 @@
-// Chance, by one step of xorshift: the same numbers on every machine, and nothing that could overflow.
+// What the stored rounds send and show (crates/stored), made from seeds: commands, faults, idle writes (`writes`) and `screens`.
+// Chance goes by one step of xorshift: the same numbers on every machine, and nothing that could overflow. tools/oracle/stored.rs
+// makes the same for the Rust, so a change here is a change there.
 ghost use Prim.Native.Nat.{_<_};
+
+pub mod screens;
+pub mod writes;
 
 // What every stream and every digest starts from.
 pub const SEED: u64 = 0x53706F7265;
@@ -26,15 +31,4 @@ pub fn below(x: u64, n: usize) -> usize
     ensures { λ r. ⌜ r < n ⌝ }
 {
     ((x >> 32) as usize) % n
-}
-
-// Noise.
-pub fn fill(out: &mut [u8], from: u64) {
-    let mut x = from;
-    let mut i = 0;
-    while i < out.len() {
-        x = step(x);
-        out[i] = byte(x);
-        i += 1;
-    }
 }
