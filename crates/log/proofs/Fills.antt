@@ -1,10 +1,10 @@
 -- A fill tells the next part of what is still to be told, and leaves the rest.
-use mathlib.Core.Path.{_≡_, refl, sym, ap, _∙_}
+use mathlib.Core.Path.{_≡_, refl, sym, ap, _∙_, subst⁻¹}
 use mathlib.Core.Bool.{Bool, true, false, cond, not, _&&_}
 use mathlib.Core.List.{List, [], _∷_, _++_, append-assoc}
 use Prim.Native.Nat.{ℕ, zero, suc, _+_, _-_, _≤_, _<_}
 use native.Mathlib.Omega.{arith}
-use borrow.Author.Tests.{ltb-true, ltb-false, leb-true}
+use borrow.Author.Tests.{ltb-true, ltb-false, leb-true, le-leb, lt-ltb}
 use lib.Dec.{ltb, leb}
 use lib.ListN.{length, drop}
 use Rattle.bits.proofs.Tests.{either, and-left, and-right}
@@ -129,3 +129,34 @@ module _ (room : ℕ) (r : Reading) (d : Desk) (chunk : List ℕ) (at : ℕ) (k 
 
   pub fill-ends : (rest : List ℕ) → toEnd r d (drop at chunk ++ rest) ≡ toEnd (fill room r d chunk at .reading) (fill room r d chunk at .desk) (drop (fill room r d chunk at .at) chunk ++ rest)
   fill-ends rest = all .ends rest
+
+  -- where there is something to do and room, a fill does some of it
+  abbrev f₀ : Filling
+  f₀ = record { reading = r; at = at; refused = false; desk = d; events = [] }
+
+  goes : 0 < left r (length chunk) at → 256 ≤ room → goesOn false (length (shown [])) r at (length chunk) room ≡ true
+  unfolding goesOn shown
+  goes more big =
+      let a : leb (0 + 256) room ≡ true = le-leb (0 + 256) room (omega arith) in
+      let b : ltb 0 (left r (length chunk) at) ≡ true = lt-ltb 0 (left r (length chunk) at) more in
+      rw (a, b)
+
+  next-less : 0 < left r (length chunk) at → left (next f₀ chunk .reading) (length chunk) (next f₀ chunk .at) < left r (length chunk) at
+  unfolding next nextBy
+  next-less more = step-keeps r d chunk at k h .less more
+
+  fills-less : (n : ℕ) → 0 < left r (length chunk) at → 256 ≤ room → left (fills (suc n) room f₀ chunk .reading) (length chunk) (fills (suc n) room f₀ chunk .at) < left r (length chunk) at
+  unfolding fills
+  fills-less n more big =
+      let w = next-fit f₀ chunk k h in
+      let l : left (fills n room (next f₀ chunk) chunk .reading) (length chunk) (fills n room (next f₀ chunk) chunk .at) ≤ left (next f₀ chunk .reading) (length chunk) (next f₀ chunk .at) = fills-all n room (next f₀ chunk) chunk (w .0) (w .1) .keeps .no-more in
+      subst⁻¹ (λ (t : Bool). left (cond t (fills n room (next f₀ chunk) chunk) f₀ .reading) (length chunk) (cond t (fills n room (next f₀ chunk) chunk) f₀ .at) < left r (length chunk) at) (goes more big)
+      (omega (arith, l, next-less more))
+
+  pub fill-less : 0 < left r (length chunk) at → 256 ≤ room → left (fill room r d chunk at .reading) (length chunk) (fill room r d chunk at .at) < left r (length chunk) at
+  unfolding fill
+  fill-less more big = by (left r (length chunk) at) refl
+    where
+      by : (n : ℕ) → left r (length chunk) at ≡ n → left (fills n room f₀ chunk .reading) (length chunk) (fills n room f₀ chunk .at) < left r (length chunk) at
+      by zero e = absurd (omega arith)
+      by (suc n) e = fills-less n more big

@@ -148,5 +148,6 @@ module _ (r : Reading) (d : Desk) (chunk : List ℕ) (from : ℕ) (out : List �
     ends = record {
       goes = ap (λ (n : ℕ). record { reading = f .reading; at = f .at; size = n; refused = f .refused }) (t .size-is) ∙ ap filledTo is;
       lends = ap (λ (x : Filling). x .desk) is;
+      fits = t .size-fits;
       tells = t .tells ∙ ap (λ (x : Filling). over 0 (length (shown (x .events))) (shown (x .events)) out) is;
     }

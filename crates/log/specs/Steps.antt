@@ -192,6 +192,7 @@ filledTo f = record { reading = f .reading; at = f .at; size = length (shown (f 
 pub record Full (r : Reading) (d : Desk) (chunk : List ℕ) (at : ℕ) (out : List ℕ) (g : Filled) (e : Desk) (out′ : List ℕ) : Type 0 where
   pub goes : g ≡ filledTo (fill (length out) r d chunk at)
   pub lends : e ≡ fill (length out) r d chunk at .desk
+  pub fits : g .size ≤ length out
   pub tells : out′ ≡ over 0 (length (shown (fill (length out) r d chunk at .events))) (shown (fill (length out) r d chunk at .events)) out
 
 -- ---- the end of the input

@@ -8,10 +8,13 @@ ghost use lib.ListN.{length, take};
 ghost use mathlib.Core.List.{[]};
 ghost use Rattle.parts.specs.Parts.{captureBytes, storeBytes};
 ghost use Rattle.layout.specs.Valid.{Valid};
-ghost use Rattle.text.specs.Text.{hexLine};
+ghost use Rattle.text.specs.Text.{hexLine, rowLine};
 ghost use Rattle.line.specs.Line.{lineDigits};
 ghost use Rattle.log.specs.Steps.{begun, left, fill, desk, toldOf, ranOn, answerOf, ended, stepped, Fit, goesOn, stepRoom, ToldFits, Said, Full, isRefused, toldBy, lastLf, nextLine};
-ghost use Rattle.log.specs.Texts.{shown};
+ghost use Rattle.layout.specs.Block.{load};
+ghost use Rattle.picture.specs.Picture.{rowOf};
+ghost use Rattle.view.specs.Drawn.{partsOf};
+ghost use Rattle.log.specs.Texts.{shown, headBytes, headLine};
 ghost use Rattle.bits.specs.Over.{over};
 use line::Line;
 use line::lines::Held;
@@ -320,4 +323,24 @@ pub fn fill(
         f = g;
     }
     f
+}
+
+// The block's first 13 bytes as `replay` ends with them, at the front of `out`. Answers the text's length.
+pub fn head_line(block: &[u8], out: &mut [u8]) -> usize
+    requires { ⌜ (headBytes ≤ length (now block)) × (stepRoom ≤ length (now out)) ⌝ }
+    ensures { λ r. ⌜ (r ≡ length (headLine (now (block .entry)))) × (r ≤ stepRoom) ⌝ }
+    ensures { λ _. ⌜ now (out .exit) ≡ over 0 (length (headLine (now (block .entry)))) (headLine (now (block .entry))) (now (out .entry)) ⌝ }
+{
+    command_line(&block[0..parts::SPARE], out, 0)
+}
+
+// A row of the picture as `plate` prints it, at the front of `out`.
+pub fn row_line(block: &[u8], y: usize, words: &mut [u16], out: &mut [u8])
+    requires { ⌜ Valid (now block) × (y < 224) ⌝ }
+    requires { ⌜ (length (now words) ≡ 256) × (1025 ≤ length (now out)) ⌝ }
+    ensures { λ _. ⌜ now (words .exit) ≡ rowOf (partsOf (load (now (block .entry)))) y ⌝ }
+    ensures { λ _. ⌜ now (out .exit) ≡ over 0 1025 (rowLine (rowOf (partsOf (load (now (block .entry)))) y)) (now (out .entry)) ⌝ }
+{
+    view::drawn::draw_row(block, y, words);
+    text::row_line(words, out);
 }

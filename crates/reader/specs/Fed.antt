@@ -1,0 +1,28 @@
+-- What reading keeps: the buffers are those that the steps of `log` require, and lines are counted within the bytes that came.
+use Prim.Native.Nat.{ℕ, _+_, _≤_}
+use mathlib.Core.List.{List}
+use mathlib.Core.Path.{_≡_}
+use lib.ListN.{length}
+use Rattle.parts.specs.Parts.{blockBytes, storeBytes, captureBytes}
+use Rattle.line.specs.Line.{lineDigits}
+use Rattle.log.specs.Steps.{Desk, Fit}
+use Rattle.log.specs.declared.Reading.{Reading}
+use Rattle.reader.specs.declared.Fed.{Fed}
+
+-- the bytes of a read, and of the text between two writes
+abbrev pub chunkBytes : ℕ
+chunkBytes = 4096
+
+abbrev pub outBytes : ℕ
+outBytes = 2048
+
+-- the buffers as they are lent at first
+pub record Sized (d : Desk) : Type 0 where
+  pub block-long : length (d .block) ≡ blockBytes
+  pub line-long : length (d .line) ≡ lineDigits
+  pub bytes-long : length (d .bytes) ≡ captureBytes
+  pub command-long : length (d .command) ≡ storeBytes
+
+pub record Kept (r : Reading) (size : ℕ) (f : Fed) (e : Desk) : Type 0 where
+  pub fit : Fit (f .reading) e
+  pub counted : f .reading .number ≤ r .number + size
