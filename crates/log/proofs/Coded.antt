@@ -1,9 +1,9 @@
 -- What the code answers is the step.
 use mathlib.Core.Path.{_≡_, refl, sym, ap, ap₂, _∙_, subst}
-use mathlib.Core.List.{List, [], _∷_, append-nil}
+use mathlib.Core.List.{List, [], _∷_, _++_, append-nil}
 use Prim.Native.Nat.{ℕ, zero, suc, _+_, _-_, _*_, _≤_, _<_}
 use native.Mathlib.Omega.{arith}
-use lib.ListN.{length, take, drop, length-take, length-drop, take-append-drop}
+use lib.ListN.{length, take, drop, length-take, length-drop, take-append-drop, drop-of-length-le}
 use Rattle.layout.specs.Block.{load}
 use Rattle.port.specs.Bytes.{packetsIn}
 use Rattle.play.specs.Play.{played}
@@ -22,11 +22,14 @@ use borrow.Author.Tests.{le-leb, lt-leb, lt-ltb, le-ltb}
 use lib.Dec.{leb, ltb}
 use mathlib.Core.Bool.{Bool, true, false}
 use Rattle.bits.specs.Over.{over}
-use Rattle.text.specs.Text.{hexLine, refusalText}
-use Rattle.text.proofs.Printed.{length-hexLine}
+use Rattle.text.specs.Text.{hexLine, refusalText, rowLine}
+use Rattle.text.proofs.Printed.{length-hexLine, length-rowLine}
+use Rattle.bits.proofs.Tabs.{length-tab}
+use Rattle.picture.specs.Picture.{pixelAt, rowOf}
+use Rattle.view.specs.Drawn.{partsOf, rowDrawn}
 use Rattle.log.specs.Events.{Event, completed}
 use Rattle.log.specs.Events.{refusal as refused-line}
-use Rattle.log.specs.Texts.{shownOne, shown}
+use Rattle.log.specs.Texts.{shownOne, shown, headBytes, headLine}
 use Rattle.log.proofs.Takes.{Fits, fits-line}
 use Rattle.log.proofs.Keeps.{filled-long}
 use Rattle.line.specs.declared.Line.{Line}
@@ -215,3 +218,20 @@ module _ (r : Reading) where
   pub last-none : r .held .long ≡ false → r .held .size ≤ 0 → 0 ≡ length (lastLf r)
   unfolding lastLf
   last-none e h = rw (e, le-ltb 0 (r .held .size) h)
+
+-- ---- the closing line of `replay`, and a row of `plate`
+
+pub head-short : (block : List ℕ) → length (headLine block) ≤ stepRoom
+unfolding headLine
+head-short block = omega (arith, length-hexLine (take headBytes block), length-take headBytes block)
+
+pub row-words : (b : List ℕ) (y : ℕ) (words drawn : List ℕ) → length words ≡ 256 → drawn ≡ rowDrawn b y words → drawn ≡ rowOf (partsOf (load b)) y
+unfolding rowDrawn
+row-words b y words drawn h e = e ∙ ap (λ (l : List ℕ). rowOf (partsOf (load b)) y ++ l) (drop-of-length-le words {i = 256} (omega arith)) ∙ append-nil (rowOf (partsOf (load b)) y)
+
+pub row-text : (row drawn out out′ : List ℕ) → drawn ≡ row → length row ≡ 256 → out′ ≡ over 0 (length (rowLine drawn)) (rowLine drawn) out → out′ ≡ over 0 1025 (rowLine row) out
+row-text row drawn out out′ e h k = k ∙ ap (λ (w : List ℕ). over 0 (length (rowLine w)) (rowLine w) out) e ∙ ap (λ (n : ℕ). over 0 n (rowLine row) out) (let l : length (rowLine row) ≡ 1025 = omega (arith, length-rowLine row) in l)
+
+pub row-long : (b : List ℕ) (y : ℕ) → length (rowOf (partsOf (load b)) y) ≡ 256
+unfolding rowOf
+row-long b y = length-tab 256 (λ x. pixelAt (partsOf (load b)) x y)

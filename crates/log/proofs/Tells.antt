@@ -15,7 +15,7 @@ use Rattle.layout.specs.Valid.{Valid}
 use Rattle.layout.proofs.Goods.{valid-good, good-back, good-valid, length-save}
 use Rattle.rules.specs.Write.{written, answer}
 use Rattle.rules.specs.Screen.{screened}
-use Rattle.rules.proofs.Keeps.{Whole, WholeIf, good-written, answered-whole, good-screened}
+use Rattle.rules.proofs.Keeps.{WholeIf, good-written, answered-whole, good-screened}
 use Rattle.port.specs.Bytes.{handed, packetsIn}
 use Rattle.play.specs.Play.{Played, stop, played}
 use Rattle.parts.specs.Parts.{captureBytes}

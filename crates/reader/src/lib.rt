@@ -130,16 +130,7 @@ fn finish(
 {
     let lf = [10u8; 1];
     let k = log::last_lf(reading);
-    let f = feed(
-        reading,
-        block,
-        line,
-        bytes,
-        command,
-        out,
-        &lf[0..k],
-        quiet,
-    );
+    let f = feed(reading, block, line, bytes, command, out, &lf[0..k], quiet);
     let next = f.reading;
     Fed {
         reading: next,
@@ -194,7 +185,11 @@ fn told(text: &[u8], refused: bool, quiet: bool) -> State {
         }
         return State::More;
     }
-    if write_out(text) { State::More } else { State::Failed }
+    if write_out(text) {
+        State::More
+    } else {
+        State::Failed
+    }
 }
 
 fn goes_on(fed: Fed) -> bool {
