@@ -2,6 +2,7 @@
 // What is written stands in the contracts of `log`, and the reading and writing in `reader`.
 ghost use mathlib.Core.Path.{_≡_};
 ghost use lib.ListN.{length};
+ghost use Rattle.layout.specs.Valid.{Valid};
 ghost use Rattle.log.specs.Steps.{desk};
 ghost use Rattle.reader.specs.Fed.{Sized, chunkBytes, outBytes};
 use reader::State;
@@ -46,7 +47,7 @@ fn replay(
 
 // The block's first 13 bytes.
 fn head(block: &[u8], out: &mut [u8])
-    requires { ⌜ length (now out) ≡ outBytes ⌝ }
+    requires { ⌜ Valid (now block) × (length (now out) ≡ outBytes) ⌝ }
 {
     let n = log::head_line(block, out);
     reader::write_out(&out[0..n]);

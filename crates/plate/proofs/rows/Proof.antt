@@ -1,0 +1,80 @@
+-- A row a turn.
+use mathlib.Core.Path.{_≡_, _∙_}
+use Prim.Native.Nat.{_-_, _≤_}
+use native.Mathlib.Omega.{arith}
+use lib.ListN.{length}
+use Rattle.plate.proofs.rows.Statement.{statement}
+use Rattle.plate.proofs.rows.Tie as tie
+
+abbrev Inv-loop : tie.InvT-loop
+Inv-loop block words₀ out₀ y₀ words out y = (y ≤ 224) × ((length words ≡ 256) × (length out ≡ 2048))
+
+abbrev μ-loop : tie.MeasureT-loop
+μ-loop block words₀ out₀ y₀ words out y = 224 - y
+
+loop-holds : tie.Need-loop-holds Inv-loop μ-loop
+loop-holds c = (omega arith, (c .before .before .before .pre .1 .0, c .before .before .before .pre .1 .1))
+
+row-line-requires : tie.Need-row-line-requires Inv-loop μ-loop
+row-line-requires c κs = ((c .before .before .before .before .before .before .before .pre .0, omega (arith, c .before .before .loop-test .taken)), (c .before .before .before .loop .inv .1 .0, omega (arith, c .before .before .before .loop .inv .1 .1)))
+
+sub-write-out : tie.Need-sub-write-out Inv-loop μ-loop
+sub-write-out c = omega arith
+
+part-write-out-start : tie.Need-part-write-out-start Inv-loop μ-loop
+part-write-out-start c = omega arith
+
+part-write-out-end : tie.Need-part-write-out-end Inv-loop μ-loop
+part-write-out-end c = omega (arith, c .before .before .before .before .before .row-line .kept .1 .1 .1 .0, c .before .before .before .before .before .before .before .before .before .loop .inv .1 .1)
+
+write-out-requires : tie.Need-write-out-requires Inv-loop μ-loop
+write-out-requires c κs = tt
+
+same-length : tie.Need-same-length Inv-loop μ-loop
+same-length c = omega (arith, c .before .before .before .before .before .before .before .before .row-line .kept .1 .1 .0, c .before .before .before .before .before .before .before .before .before .before .before .before .loop .inv .1 .0, c .before .before .before .before .before .before .before .before .before .before .before .before .before .before .before .before .pre .1 .0)
+
+same-length-2 : tie.Need-same-length-2 Inv-loop μ-loop
+same-length-2 c = omega (arith, c .before .before .before .before .before .before .before .before .row-line .kept .1 .1 .1 .0, c .before .before .before .before .before .before .before .before .before .before .before .before .loop .inv .1 .1, c .before .before .before .before .before .before .before .before .before .before .before .before .before .before .before .before .pre .1 .1)
+
+returns : tie.Need-returns Inv-loop μ-loop
+returns c = tt
+
+add-y : tie.Need-add-y Inv-loop μ-loop
+add-y c = omega arith
+
+loop-less : tie.Need-loop-less Inv-loop μ-loop
+loop-less c = omega (arith, c .before .before .before .before .before .before .before .before .before .before .before .loop-test .taken)
+
+loop-again : tie.Need-loop-again Inv-loop μ-loop
+loop-again c = (omega (arith, c .before .before .before .before .before .before .before .before .before .before .before .loop-test .taken), (c .before .before .before .before .before .before .before .before .row-line .kept .1 .1 .0 ∙ c .before .before .before .before .before .before .before .before .before .before .before .before .loop .inv .1 .0, c .before .before .before .before .before .before .before .before .row-line .kept .1 .1 .1 .0 ∙ c .before .before .before .before .before .before .before .before .before .before .before .before .loop .inv .1 .1))
+
+same-length-3 : tie.Need-same-length-3 Inv-loop μ-loop
+same-length-3 c = omega (arith, c .before .loop .inv .1 .0, c .before .before .before .before .before .pre .1 .0)
+
+same-length-4 : tie.Need-same-length-4 Inv-loop μ-loop
+same-length-4 c = omega (arith, c .before .loop .inv .1 .1, c .before .before .before .before .before .pre .1 .1)
+
+returns-2 : tie.Need-returns-2 Inv-loop μ-loop
+returns-2 c = tt
+
+pub rows-spec : {M : Type 1} → statement M
+rows-spec =
+    tie.close
+    (tie.spec
+    Inv-loop
+    μ-loop
+    loop-holds
+    row-line-requires
+    sub-write-out
+    part-write-out-start
+    part-write-out-end
+    write-out-requires
+    same-length
+    same-length-2
+    returns
+    add-y
+    loop-less
+    loop-again
+    same-length-3
+    same-length-4
+    returns-2)
