@@ -96,7 +96,7 @@ save-lines-requires : tie.Need-save-lines-requires
 save-lines-requires c κs =
     let p = c .before .before .before .before .before .before .before .before .before .before .before .before .before .before .before .before .before in
     ap length (c .before .before .before .before .before .save-receiver .ensures)
-    ∙ length-receiver (rxOf (p .write .result .next)) _ (stored-long (block p) (long p) (p .write .result .done) _ (fits p) _ (c .before .before .before .before .before .before .before .before .before .before .before .before .complete .ensures .1 .0))
+    ∙ length-receiver _ _ (stored-long (block p) (long p) (p .write .result .done) _ (fits p) _ (c .before .before .before .before .before .before .before .before .before .before .before .before .complete .ensures .1 .0))
 
 same-length : tie.Need-same-length
 same-length c = search needs
