@@ -6,7 +6,7 @@ use Prim.Native.Nat.{ℕ, _+_, _*_, _-_, _≤_}
 use native.Mathlib.Omega.{arith}
 use lib.ListN.{length, take, length-take}
 use Rattle.log.specs.Steps.{Fit, desk}
-use Rattle.reader.specs.Fed.{Sized, Kept}
+use Rattle.reader.specs.Fed.{Sized, chunkBytes, outBytes}
 use Rattle.log.specs.declared.Reading.{Reading}
 use Rattle.reader.proofs.Feeding.{boot-fit, sized-kept}
 use Rattle.reader.proofs.read_log.Statement.{statement}
@@ -15,7 +15,7 @@ use Rattle.reader.proofs.read_log.Tie as tie
 abbrev Inv-loop : tie.InvT-loop
 Inv-loop block₀ line₀ bytes₀ command₀ out₀ chunk₀ quiet reading₀ turns₀ t12 block line bytes command out chunk reading turns =
     Fit reading (desk block line bytes command)
-    × ((reading .number + turns * 4096 ≤ 4611686018427387905) × (Sized (desk block line bytes command) × ((length out ≡ 2048) × (length chunk ≡ 4096))))
+    × ((reading .number + turns * chunkBytes ≤ 4611686018427387905) × (Sized (desk block line bytes command) × ((length out ≡ outBytes) × (length chunk ≡ chunkBytes))))
 
 abbrev μ-loop : tie.MeasureT-loop
 μ-loop block₀ line₀ bytes₀ command₀ out₀ chunk₀ quiet reading₀ turns₀ t12 block line bytes command out chunk reading turns = turns
