@@ -66,7 +66,8 @@ def writing(t, p, few=False):
         with_descriptor(lambda fd: refuses(t, p, "output is full", name, whole, stdin=log, stdout=fd), "/dev/full", os.O_WRONLY)
         with_descriptor(lambda fd: refuses(t, p, "output is for reading", name, whole, stdin=log, stdout=fd), os.devnull, os.O_RDONLY)
         for most in (0, 1, 100, len(whole) // 2, len(whole) - 27, len(whole) - 2, len(whole) - 1):
-            for via in (p.run, p.bin):
+            # the limit is on every file, so with room for nothing the program's own word has none either: bin/ takes it by a pipe
+            for via in (p.run, p.bin) if most else (p.bin,):
                 ended = via(name, stdin=log, settings=[f"room{most}"])
                 t.check(f"{name}: room for {most} of {len(whole)} bytes", ended.failed_clearly() and ended.out == whole[:most], ended.show)
         ended = p.bin(name, stdin=log, settings=[f"room{len(whole)}"])
