@@ -7,3 +7,4 @@ pub mod Coded
 pub mod Whole
 pub mod Stepping
 pub mod Turns
+pub mod Prints

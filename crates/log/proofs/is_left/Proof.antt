@@ -1,9 +1,5 @@
 -- By whether the chunk holds more.
 use Rattle.log.proofs.Left.{is-chunk, is-pending}
-use Rattle.log.proofs.Tells.{ran-tells}
-use Rattle.log.proofs.Fills.{fill-tells}
-use Rattle.log.proofs.Turns.{ends}
-use Rattle.log.proofs.Whole.{all-done}
 use Rattle.log.proofs.is_left.Statement.{statement}
 use Rattle.log.proofs.is_left.Tie as tie
 
