@@ -2,3 +2,4 @@ pub mod Feeds
 pub mod Lanes
 pub mod Passes
 pub mod Rises
+pub mod Waits

@@ -12,10 +12,11 @@ use Rattle.receiver.specs.declared.Stage.the-variants.{Idle, Receiving}
 use Rattle.receiver.specs.declared.Receiver.{Receiver}
 use Rattle.receiver.specs.Port.{Port}
 use Rattle.receiver.specs.Receive.{words, rxOf, Sound}
-use Rattle.run.specs.Run.{runs}
+use Rattle.run.specs.Run.{runs, portOf}
+use Rattle.run.specs.declared.Lines.{Lines}
 use Rattle.fast.specs.declared.gather.Gathered.{Gathered}
 use Rattle.fast.specs.declared.Fed.{Fed}
-use Rattle.fast.specs.Fast.{rises, live, Feeds, Gave, portWith, Passed}
+use Rattle.fast.specs.Fast.{rises, live, Feeds, Gave, released, Passed}
 use Rattle.fast.proofs.Rises.{rises-small}
 
 -- the loop of `gather`
@@ -55,12 +56,12 @@ module _ (mask from index idx B P : ℕ) (rx : Receiver) (ws : List ℕ) (g : Ga
   joined =
       record {
         rx = record { stage = Receiving; expected = rx .expected; received = rx .received; bits = qb; lo = ql; hi = qh };
-        index = idx;
+        lines = released idx;
         at = g .at;
       }
 
   join-same : (s : List ℕ)
-      → runs mask from index (portWith rx true true s) (drop from ws) ≡ runs mask (g .at) idx (portWith (joined .rx) true true s) (drop (g .at) ws)
+      → runs mask from index (portOf rx (released index) s) (drop from ws) ≡ runs mask (g .at) idx (portOf (joined .rx) (released idx) s) (drop (g .at) ws)
   unfolding Feeds
   join-same s =
       let e : ℕ = rx .expected in
@@ -75,7 +76,7 @@ module _ (mask from index idx B P : ℕ) (rx : Receiver) (ws : List ℕ) (g : Ga
   not-idle : {A : Type 0} → Receiving ≡ Idle → A
   not-idle e = let z : _≡_ {A = ℕ} 0 1 = cc in absurd (omega arith)
 
-  pub join : Passed mask from rx true true index ws joined
+  pub join : Passed mask from rx (released index) ws joined
   join =
       record {
         onto = omega (arith, G .place);
@@ -94,14 +95,13 @@ module _ (mask from index idx B P : ℕ) (rx : Receiver) (ws : List ℕ) (g : Ga
       }
 
 -- nothing is taken; one way after the other
-pub stay : (mask from : ℕ) (rx : Receiver) (p15 both : Bool) (index : ℕ) (ws : List ℕ) → from ≤ length ws → Sound (rxOf rx) → index < 255
-    → Passed mask from rx p15 both index ws (record { rx = rx; index = index; at = from })
-stay mask from rx p15 both index ws h s k =
-    record { onto = omega arith; within = h; kept = refl; sound = s; few = k; same = λ s. refl }
+pub stay : (mask from : ℕ) (rx : Receiver) (l : Lines) (ws : List ℕ) → from ≤ length ws → Sound (rxOf rx) → l .index < 255
+    → Passed mask from rx l ws (record { rx = rx; lines = l; at = from })
+stay mask from rx l ws h s k = record { onto = omega arith; within = h; kept = refl; sound = s; few = k; same = λ s. refl }
 
-pub then : (mask from : ℕ) (rx : Receiver) (p15 both : Bool) (index : ℕ) (ws : List ℕ) (f g : Fed)
-    → Passed mask from rx p15 both index ws f → Passed mask (f .at) (f .rx) p15 both (f .index) ws g → Passed mask from rx p15 both index ws g
-then mask from rx p15 both index ws f g a b =
+pub then : (mask from : ℕ) (rx : Receiver) (l : Lines) (ws : List ℕ) (f g : Fed)
+    → Passed mask from rx l ws f → Passed mask (f .at) (f .rx) (f .lines) ws g → Passed mask from rx l ws g
+then mask from rx l ws f g a b =
     record {
       onto = omega (arith, a .onto, b .onto);
       within = b .within;
@@ -110,3 +110,7 @@ then mask from rx p15 both index ws f g a b =
       few = b .few;
       same = λ (s : List ℕ). a .same s ∙ b .same s;
     }
+
+-- both lines high
+pub are-released : (l : Lines) → l .both ≡ true → l .p15 ≡ true → l ≡ released (l .index)
+are-released l a b = ap₂ (λ (c d : Bool). record { p15 = d; both = c; index = l .index }) a b

@@ -2,7 +2,7 @@
 -- Pan Docs, Command packet transfers: a data pulse is one line low, and after it both go high.
 use Prim.Native.Nat.{ℕ, zero, suc, _+_, _*_, _^_, _<_, _≤_}
 use mathlib.Core.Path.{_≡_}
-use mathlib.Core.Bool.{Bool, true}
+use mathlib.Core.Bool.{true}
 use mathlib.Core.List.{List}
 use lib.Bits.{bitAnd}
 use lib.ListN.{length, getD, drop}
@@ -10,7 +10,8 @@ use Rattle.receiver.specs.declared.Stage.the-variants.{Receiving}
 use Rattle.receiver.specs.declared.Receiver.{Receiver}
 use Rattle.receiver.specs.Receive.{rxOf, Sound}
 use Rattle.receiver.specs.Port.{Port}
-use Rattle.run.specs.Run.{runs}
+use Rattle.run.specs.Run.{runs, portOf}
+use Rattle.run.specs.declared.Lines.{Lines}
 use Rattle.fast.specs.declared.gather.Gathered.{Gathered}
 use Rattle.fast.specs.declared.Fed.{Fed}
 
@@ -50,14 +51,15 @@ pub record Gave (ws : List ℕ) (from : ℕ) (g : Gathered) : Type 0 where
   pub small : g .word < 2 ^ g .count
   pub feeds : Feeds (drop from ws) (drop (g .at) ws) (g .count) (g .word) (g .ones)
 
-abbrev pub portWith : Receiver → Bool → Bool → List ℕ → Port
-portWith r p15 both s = record { p15 = p15; both = both; rx = rxOf r; store = s }
+-- both lines high
+abbrev pub released : ℕ → Lines
+released x = record { p15 = true; both = true; index = x }
 
 -- a run from one place is the run from a later one
-pub record Passed (mask from : ℕ) (rx : Receiver) (p15 both : Bool) (index : ℕ) (ws : List ℕ) (f : Fed) : Type 0 where
+pub record Passed (mask from : ℕ) (rx : Receiver) (l : Lines) (ws : List ℕ) (f : Fed) : Type 0 where
   pub onto : from ≤ f .at
   pub within : f .at ≤ length ws
   pub kept : f .rx .stage ≡ rx .stage
   pub sound : Sound (rxOf (f .rx))
-  pub few : f .index < 255
-  pub same : (s : List ℕ) → runs mask from index (portWith rx p15 both s) (drop from ws) ≡ runs mask (f .at) (f .index) (portWith (f .rx) p15 both s) (drop (f .at) ws)
+  pub few : f .lines .index < 255
+  pub same : (s : List ℕ) → runs mask from (l .index) (portOf rx l s) (drop from ws) ≡ runs mask (f .at) (f .lines .index) (portOf (f .rx) (f .lines) s) (drop (f .at) ws)

@@ -1,14 +1,14 @@
-// `run::run` with the same contract, word for word, and whole words of data pulses at once. Next door: the words (`gather`).
-// Packets are what it gains on; idle polling costs more than in the plain run. The figures are in docs/BENCH.md.
+// `run::run` with the same contract, word for word, and whole words of data pulses at once; while no packet is coming in it looks for
+// the next start pulse alone. Next door: the words (`gather`), the wait (`polling`). The figures are in docs/BENCH.md.
 ghost use mathlib.Core.Path.{_≡_};
-ghost use mathlib.Core.Bool.{true};
 ghost use Prim.Native.Nat.{_<_, _≤_};
 ghost use lib.ListN.{length};
 ghost use Rattle.receiver.specs.Receive.{rxOf, Sound};
 ghost use Rattle.receiver.specs.declared.Stage.the-variants.{Receiving};
 ghost use Rattle.run.specs.Run.{runs, portOf, endedOf, Ready};
-ghost use Rattle.fast.specs.Fast.{rises, Passed};
+ghost use Rattle.fast.specs.Fast.{rises, released, Passed};
 use gather::gather;
+use polling::wait;
 use receiver::Receiver;
 use receiver::Stage;
 use receiver::lines::both_high;
@@ -19,11 +19,12 @@ use run::Lines;
 use run::Ran;
 
 pub mod gather;
+pub mod polling;
 
-// A receiver further on, with the joypad index and the place.
+// A receiver further on, with the lines and the place.
 pub struct Fed {
     pub rx: Receiver,
-    pub index: u8,
+    pub lines: Lines,
     pub at: usize,
 }
 
@@ -45,22 +46,19 @@ pub fn run_fast(start: Receiver, lines: Lines, mask: u8, writes: &[u8], store: &
         };
         let f = skip(rx, here, mask, writes, i);
         let now = f.rx;
+        let before = f.lines;
         let at = f.at;
         if at >= writes.len() {
             return Ran {
                 rx: now,
-                lines: Lines {
-                    p15: p15,
-                    both: both,
-                    index: f.index,
-                },
+                lines: before,
                 at: at,
                 packets: 0,
             };
         }
         let v = writes[at];
-        index = index_after(f.index, mask, p15, v);
-        let w = now.write(v, both);
+        index = index_after(before.index, mask, before.p15, v);
+        let w = now.write(v, before.both);
         let n = file(w, now.lo, now.hi, store);
         rx = w.next;
         p15 = p15_high(v);
@@ -91,45 +89,44 @@ pub fn run_fast(start: Receiver, lines: Lines, mask: u8, writes: &[u8], store: &
     }
 }
 
-// Where the stage and the lines allow it, the whole of a packet's data pulses, as far as they are well formed. Kept small: it is
-// asked at every write, and must cost nothing where no packet is coming in.
+// By the stage: up to the next start pulse, or the whole of a packet's data pulses, as far as they are well formed. Kept small: it is
+// asked at every write.
 fn skip(rx: Receiver, lines: Lines, mask: u8, writes: &[u8], from: usize) -> Fed
     requires { ⌜ Sound (rxOf rx) × (((lines .index < 255) × (mask < 255)) × (from ≤ length (now writes))) ⌝ }
-    ensures { λ r. ⌜ Passed mask from rx (lines .p15) (lines .both) (lines .index) (now (writes .entry)) r ⌝ }
+    ensures { λ r. ⌜ Passed mask from rx lines (now (writes .entry)) r ⌝ }
+{
+    let stage = rx.stage;
+    match stage {
+        Stage::Idle => wait(rx, lines, mask, writes, from),
+        Stage::Receiving => feed_both(rx, lines, mask, writes, from),
+        Stage::Awaiting => wait(rx, lines, mask, writes, from),
+    }
+}
+
+// Where both lines are high: one word of data pulses after the other.
+fn feed_both(rx: Receiver, lines: Lines, mask: u8, writes: &[u8], from: usize) -> Fed
+    requires { ⌜ ((rx .stage ≡ Receiving) × Sound (rxOf rx)) × (((lines .index < 255) × (mask < 255)) × (from ≤ length (now writes))) ⌝ }
+    ensures { λ r. ⌜ Passed mask from rx lines (now (writes .entry)) r ⌝ }
 {
     if lines.both {
         if lines.p15 {
-            let stage = rx.stage;
-            match stage {
-                Stage::Idle => {}
-                Stage::Awaiting => {}
-                Stage::Receiving => {
-                    return feed_both(rx, lines.index, mask, writes, from);
-                }
-            }
+            let f = feed(rx, lines.index, mask, writes, from);
+            let half = f.rx;
+            return feed(half, f.lines.index, mask, writes, f.at);
         }
     }
     Fed {
         rx: rx,
-        index: lines.index,
+        lines: lines,
         at: from,
     }
-}
-
-// One word of data pulses after the other.
-fn feed_both(rx: Receiver, index: u8, mask: u8, writes: &[u8], from: usize) -> Fed
-    requires { ⌜ ((rx .stage ≡ Receiving) × Sound (rxOf rx)) × (((index < 255) × (mask < 255)) × (from ≤ length (now writes))) ⌝ }
-    ensures { λ r. ⌜ Passed mask from rx true true index (now (writes .entry)) r ⌝ }
-{
-    let f = feed(rx, index, mask, writes, from);
-    let half = f.rx;
-    feed(half, f.index, mask, writes, f.at)
 }
 
 // While a packet is coming in and both lines are high: a word of data pulses at once, where a word begins.
 fn feed(rx: Receiver, index: u8, mask: u8, writes: &[u8], from: usize) -> Fed
     requires { ⌜ ((rx .stage ≡ Receiving) × Sound (rxOf rx)) × (((index < 255) × (mask < 255)) × (from ≤ length (now writes))) ⌝ }
-    ensures { λ r. ⌜ Passed mask from rx true true index (now (writes .entry)) r ⌝ }
+    ensures { λ r. ⌜ Passed mask from rx (released index) (now (writes .entry)) r ⌝ }
+    ensures { λ r. ⌜ r .lines ≡ released (r .lines .index) ⌝ }
 {
     if rx.bits == 0 {
         let g = gather(writes, from);
@@ -142,7 +139,7 @@ fn feed(rx: Receiver, index: u8, mask: u8, writes: &[u8], from: usize) -> Fed
                 lo: g.word,
                 hi: 0,
             },
-            index: index_rises(index, mask, g.ones),
+            lines: released(index_rises(index, mask, g.ones)),
             at: g.at,
         };
     }
@@ -157,14 +154,25 @@ fn feed(rx: Receiver, index: u8, mask: u8, writes: &[u8], from: usize) -> Fed
                 lo: rx.lo,
                 hi: g.word,
             },
-            index: index_rises(index, mask, g.ones),
+            lines: released(index_rises(index, mask, g.ones)),
             at: g.at,
         };
     }
     Fed {
         rx: rx,
-        index: index,
+        lines: released(index),
         at: from,
+    }
+}
+
+// Both lines high.
+fn released(index: u8) -> Lines
+    ensures { λ r. ⌜ r ≡ released index ⌝ }
+{
+    Lines {
+        p15: true,
+        both: true,
+        index: index,
     }
 }
 

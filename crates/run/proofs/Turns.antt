@@ -19,7 +19,7 @@ use Rattle.bits.proofs.Tests.{either}
 use Rattle.receiver.proofs.Sound.{good-written, length-filed}
 use Rattle.run.specs.Run.{Ended, lined, onward, runs, Ready}
 
-index-small : (x m : ℕ) (was : Bool) (v : ℕ) → x < 255 → m < 255 → indexed x m was v < 255
+pub index-small : (x m : ℕ) (was : Bool) (v : ℕ) → x < 255 → m < 255 → indexed x m was v < 255
 unfolding indexed
 index-small x m was v h k =
     either (λ (n : ℕ). n < 255) (p15High v && not was) (λ e. omega (arith, and-le-r (x + 1) m)) (λ e. h)

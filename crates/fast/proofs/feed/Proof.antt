@@ -1,5 +1,5 @@
 -- The words are full or empty, so a gathered word stands beside the other.
-use mathlib.Core.Bool.{true}
+use Rattle.fast.specs.Fast.{released}
 use Rattle.fast.proofs.Passes.{join, stay}
 use Rattle.receiver.specs.Receive.{words}
 use native.Mathlib.Omega.{arith}
@@ -17,33 +17,49 @@ index-rises-requires c κs = search needs
 
 returns : tie.Need-returns
 returns c =
-    let a = c .before .before .before .before .before .args in
-    let p = c .before .before .before .before .before .pre in
-    let g = c .before .gather in
-    let t = rw (c .before .before .if1 .taken) at (p .0 .1 .clear) in
-    join (a .mask) (a .from) (a .index) (c .index-rises .result) 0 (0) (a .rx) (a .writes .now) (g .result) (g .result .count) (g .result .word) (0)
-    (p .0 .0) (p .0 .1) (c .before .before .if1 .taken) (omega (arith, t)) (p .1 .0 .0) (p .1 .0 .1) (g .ensures) (c .index-rises .ensures) (omega (arith, g .ensures .few)) (omega arith) (omega arith)
+    let a = c .before .before .before .before .before .before .args in
+    let p = c .before .before .before .before .before .before .pre in
+    let g = c .before .before .gather in
+    let x = c .before .index-rises in
+    let t = rw (c .before .before .before .if1 .taken) at (p .0 .1 .clear) in
+    let j = join (a .mask) (a .from) (a .index) (x .result) 0 (0) (a .rx) (a .writes .now) (g .result) (g .result .count) (g .result .word) (0)
+    (p .0 .0) (p .0 .1) (c .before .before .before .if1 .taken) (omega (arith, t)) (p .1 .0 .0) (p .1 .0 .1) (g .ensures) (x .ensures) (omega (arith, g .ensures .few)) (omega arith) (omega arith) in
+    rw (c .released .ensures) (j, refl)
 
 gather-requires-2 : tie.Need-gather-requires-2
 gather-requires-2 c κs = search needs
 
-add-t13 : tie.Need-add-t13
-add-t13 c = omega (arith, c .before .gather2 .ensures .few)
+add-t14 : tie.Need-add-t14
+add-t14 c = omega (arith, c .before .gather2 .ensures .few)
 
 index-rises-requires-2 : tie.Need-index-rises-requires-2
 index-rises-requires-2 c κs = search needs
 
 returns-2 : tie.Need-returns-2
 returns-2 c =
-    let a = c .before .before .before .before .before .before .before .before .args in
-    let p = c .before .before .before .before .before .before .before .before .pre in
-    let g = c .before .before .gather2 in
-    let t = rw (c .before .before .before .if2 .taken) at (p .0 .1 .clear) in
-    join (a .mask) (a .from) (a .index) (c .index-rises2 .result) 64 (words (a .rx .lo) (a .rx .hi)) (a .rx) (a .writes .now) (g .result) (64 + g .result .count) (a .rx .lo) (g .result .word)
-    (p .0 .0) (p .0 .1) (c .before .before .before .if2 .taken) refl (p .1 .0 .0) (p .1 .0 .1) (g .ensures) (c .index-rises2 .ensures) (omega (arith, g .ensures .few)) (omega arith) (omega (arith, t))
+    let a = c .before .before .before .before .before .before .before .before .before .args in
+    let p = c .before .before .before .before .before .before .before .before .before .pre in
+    let g = c .before .before .before .gather2 in
+    let x = c .before .index-rises2 in
+    let t = rw (c .before .before .before .before .if2 .taken) at (p .0 .1 .clear) in
+    let j = join (a .mask) (a .from) (a .index) (x .result) 64 (words (a .rx .lo) (a .rx .hi)) (a .rx) (a .writes .now) (g .result) (64 + g .result .count) (a .rx .lo) (g .result .word)
+    (p .0 .0) (p .0 .1) (c .before .before .before .before .if2 .taken) refl (p .1 .0 .0) (p .1 .0 .1) (g .ensures) (x .ensures) (omega (arith, g .ensures .few)) (omega arith) (omega (arith, t)) in
+    rw (c .released2 .ensures) (j, refl)
+
+released-requires : tie.Need-released-requires
+released-requires c κs = search needs
+
+released-requires-2 : tie.Need-released-requires-2
+released-requires-2 c κs = search needs
+
+released-requires-3 : tie.Need-released-requires-3
+released-requires-3 c κs = search needs
 
 returns-3 : tie.Need-returns-3
-returns-3 c = stay (c .before .before .before .before .before .args .mask) (c .before .before .before .before .before .args .from) (c .before .before .before .before .before .args .rx) true true (c .before .before .before .before .before .args .index) (c .before .before .before .before .before .args .writes .now) (c .before .before .before .before .before .pre .1 .1) (c .before .before .before .before .before .pre .0 .1) (c .before .before .before .before .before .pre .1 .0 .0)
+returns-3 c =
+    let a = c .before .before .before .before .before .before .args in
+    let p = c .before .before .before .before .before .before .pre in
+    rw (c .released3 .ensures) (stay (a .mask) (a .from) (a .rx) (released (a .index)) (a .writes .now) (p .1 .1) (p .0 .1) (p .1 .0 .0), refl)
 
 pub feed-spec : {M : Type 1} → statement M
 feed-spec =
@@ -51,9 +67,12 @@ feed-spec =
     (tie.spec
     gather-requires
     index-rises-requires
+    released-requires
     returns
     gather-requires-2
-    add-t13
+    add-t14
     index-rises-requires-2
+    released-requires-2
     returns-2
+    released-requires-3
     returns-3)

@@ -27,33 +27,33 @@ abbrev μ-loop : tie.MeasureT-loop
 module _ (c : tie.After-both-high Inv-loop μ-loop) where
   -- the port that the write met, and the write
   abbrev met : Port
-  met = let at = c .before .before .before .before .before .before .before .before .before .before .before .before .before .before .loop in port (rxOf (c .before .before .before .before .before .before .before .before .before .before .before .before .skip .result .rx)) (at .p15) (at .both) (at .store)
+  met = let at = c .before .before .before .before .before .before .before .before .before .before .before .before .before .before .before .loop in port (rxOf (c .before .before .before .before .before .before .before .before .before .before .before .before .before .skip .result .rx)) (c .before .before .before .before .before .before .before .before .before .before .before .before .before .skip .result .lines .p15) (c .before .before .before .before .before .before .before .before .before .before .before .before .before .skip .result .lines .both) (at .store)
 
   abbrev value : ℕ
-  value = getD (c .before .before .before .before .before .before .before .before .before .before .before .before .before .before .before .before .before .args .writes .now) (c .before .before .before .before .before .before .before .before .before .before .before .before .skip .result .at) 0
+  value = getD (c .before .before .before .before .before .before .before .before .before .before .before .before .before .before .before .before .before .before .args .writes .now) (c .before .before .before .before .before .before .before .before .before .before .before .before .before .skip .result .at) 0
 
-  ready : Ready met (c .before .before .before .before .before .before .before .before .before .before .before .before .skip .result .index) (c .before .before .before .before .before .before .before .before .before .before .before .before .before .before .before .before .before .args .mask)
+  ready : Ready met (c .before .before .before .before .before .before .before .before .before .before .before .before .before .skip .result .lines .index) (c .before .before .before .before .before .before .before .before .before .before .before .before .before .before .before .before .before .before .args .mask)
   ready =
-      let f = c .before .before .before .before .before .before .before .before .before .before .before .before .skip .ensures in
-      let v = c .before .before .before .before .before .before .before .before .before .before .before .before .before .before .loop .inv .1 .0 in
+      let f = c .before .before .before .before .before .before .before .before .before .before .before .before .before .skip .ensures in
+      let v = c .before .before .before .before .before .before .before .before .before .before .before .before .before .before .before .loop .inv .1 .0 in
       record { sound = f .sound; within = f .few; narrow = v .narrow; long = v .long }
 
   same : port (rxOf (c .before .before .before .before .before .before .before .write .result .next)) (c .before .p15-high .result) (c .both-high .result) (c .before .before .before .before .before .file .last .1 .1 .1 .0) ≡ lined met value
   same =
-      let at = c .before .before .before .before .before .before .before .before .before .before .before .before .before .before .loop in
+      let at = c .before .before .before .before .before .before .before .before .before .before .before .before .before .before .before .loop in
       let w = c .before .before .before .before .before .before .before .write in
       let t = c .before .before .before .before .before .file in
       let p = c .before .p15-high in
-      same-port (w .result) (c .before .before .before .before .before .before .before .before .before .before .before .before .skip .result .rx) (at .p15) (at .both) value (t .result) (p .result) (c .both-high .result) (at .store) _
+      same-port (w .result) (c .before .before .before .before .before .before .before .before .before .before .before .before .before .skip .result .rx) (c .before .before .before .before .before .before .before .before .before .before .before .before .before .skip .result .lines .p15) (c .before .before .before .before .before .before .before .before .before .before .before .before .before .skip .result .lines .both) value (t .result) (p .result) (c .both-high .result) (at .store) _
       (w .ensures) (p .ensures) (c .both-high .ensures) (t .ensures .1) (t .ensures .0)
 
   count : c .before .before .before .before .before .file .result ≡ packetsOf (stepAt met value .done)
   count =
-      let at = c .before .before .before .before .before .before .before .before .before .before .before .before .before .before .loop in
+      let at = c .before .before .before .before .before .before .before .before .before .before .before .before .before .before .before .loop in
       let w = c .before .before .before .before .before .before .before .write in
       let t = c .before .before .before .before .before .file in
       let p = c .before .p15-high in
-      same-count (w .result) (c .before .before .before .before .before .before .before .before .before .before .before .before .skip .result .rx) (at .p15) (at .both) value (t .result) (p .result) (c .both-high .result) (at .store) _
+      same-count (w .result) (c .before .before .before .before .before .before .before .before .before .before .before .before .before .skip .result .rx) (c .before .before .before .before .before .before .before .before .before .before .before .before .before .skip .result .lines .p15) (c .before .before .before .before .before .before .before .before .before .before .before .before .before .skip .result .lines .both) value (t .result) (p .result) (c .both-high .result) (at .store) _
       (w .ensures) (p .ensures) (c .both-high .ensures) (t .ensures .1) (t .ensures .0)
 
 -- ---- the needs
@@ -67,27 +67,27 @@ skip-requires c κs =
     (v .1 .0 .sound, ((v .1 .0 .within, v .1 .0 .narrow), v .0 .0))
 
 same-length : tie.Need-same-length Inv-loop μ-loop
-same-length c = c .before .before .before .before .loop .inv .1 .0 .long ∙ sym (c .before .before .before .before .before .before .before .pre .long)
+same-length c = c .before .before .before .before .before .loop .inv .1 .0 .long ∙ sym (c .before .before .before .before .before .before .before .before .pre .long)
 
 returns : tie.Need-returns Inv-loop μ-loop
 returns c =
-    let at = c .before .before .before .before .loop in
-    let a = c .before .before .before .before .before .before .before .args in
-    let f = c .before .before .skip in
-    at-end (a .mask) (f .result .at) (f .result .index) _ _
+    let at = c .before .before .before .before .before .loop in
+    let a = c .before .before .before .before .before .before .before .before .args in
+    let f = c .before .before .before .skip in
+    at-end (a .mask) (f .result .at) (f .result .lines .index) _ _
     (rw (drop-of-length-le (a .writes .now) {i = f .result .at} (c .if1 .taken)) at (sym (f .ensures .same (at .store)) ∙ at .inv .1 .1))
 
 shared-slice-read-v : tie.Need-shared-slice-read-v Inv-loop μ-loop
 shared-slice-read-v c = c .before .if1 .left
 
 index-after-requires : tie.Need-index-after-requires Inv-loop μ-loop
-index-after-requires c κs = c .before .before .before .skip .ensures .few
+index-after-requires c κs = c .before .before .before .before .skip .ensures .few
 
 write-requires : tie.Need-write-requires Inv-loop μ-loop
-write-requires c κs = c .before .before .before .before .skip .ensures .sound
+write-requires c κs = c .before .before .before .before .before .skip .ensures .sound
 
 file-requires : tie.Need-file-requires Inv-loop μ-loop
-file-requires c κs = (has-place _ _ _ _ (c .before .before .before .before .before .before .skip .ensures .sound) (c .before .write .ensures), c .before .before .before .before .before .before .before .before .loop .inv .1 .0 .long)
+file-requires c κs = (has-place _ _ _ _ (c .before .before .before .before .before .before .before .skip .ensures .sound) (c .before .write .ensures), c .before .before .before .before .before .before .before .before .before .loop .inv .1 .0 .long)
 
 p15-high-requires : tie.Need-p15-high-requires Inv-loop μ-loop
 p15-high-requires c κs = search needs
@@ -96,13 +96,13 @@ both-high-requires : tie.Need-both-high-requires Inv-loop μ-loop
 both-high-requires c κs = search needs
 
 add-i : tie.Need-add-i Inv-loop μ-loop
-add-i c = omega (arith, c .before .before .before .before .before .before .before .before .before .before .if1 .left, c .before .before .before .before .before .before .before .before .before .before .before .before .before .before .loop .inv .0 .1)
+add-i c = omega (arith, c .before .before .before .before .before .before .before .before .before .before .if1 .left, c .before .before .before .before .before .before .before .before .before .before .before .before .before .before .before .loop .inv .0 .1)
 
 same-length-2 : tie.Need-same-length-2 Inv-loop μ-loop
 same-length-2 c =
-    let at = c .before .before .before .before .before .before .before .before .before .before .before .before .before .before .before .loop in
-    let a = c .before .before .before .before .before .before .before .before .before .before .before .before .before .before .before .before .before .before .args in
-    let f = c .before .before .before .before .before .before .before .before .before .before .before .before .before .skip in
+    let at = c .before .before .before .before .before .before .before .before .before .before .before .before .before .before .before .before .loop in
+    let a = c .before .before .before .before .before .before .before .before .before .before .before .before .before .before .before .before .before .before .before .args in
+    let f = c .before .before .before .before .before .before .before .before .before .before .before .before .before .before .skip in
     let x = c .before .before .before .before .before .before .before .before .before .index-after in
     let t = c .before .before .before .before .before .before .file in
     let j = f .result .at in
@@ -113,13 +113,13 @@ same-length-2 c =
     let i = sym (f .ensures .same (at .store)) ∙ at .inv .1 .1 in
     let e = same (c .before) in
     let n = count (c .before) in
-    ap (λ (q : Port). length (q .store)) e ∙ ready-lined u (f .result .index) (a .mask) v r .long ∙ sym (c .before .before .before .before .before .before .before .before .before .before .before .before .before .before .before .before .before .before .pre .long)
+    ap (λ (q : Port). length (q .store)) e ∙ ready-lined u (f .result .lines .index) (a .mask) v r .long ∙ sym (c .before .before .before .before .before .before .before .before .before .before .before .before .before .before .before .before .before .before .before .pre .long)
 
 returns-2 : tie.Need-returns-2 Inv-loop μ-loop
 returns-2 c =
-    let at = c .before .before .before .before .before .before .before .before .before .before .before .before .before .before .before .loop in
-    let a = c .before .before .before .before .before .before .before .before .before .before .before .before .before .before .before .before .before .before .args in
-    let f = c .before .before .before .before .before .before .before .before .before .before .before .before .before .skip in
+    let at = c .before .before .before .before .before .before .before .before .before .before .before .before .before .before .before .before .loop in
+    let a = c .before .before .before .before .before .before .before .before .before .before .before .before .before .before .before .before .before .before .before .args in
+    let f = c .before .before .before .before .before .before .before .before .before .before .before .before .before .before .skip in
     let x = c .before .before .before .before .before .before .before .before .before .index-after in
     let t = c .before .before .before .before .before .before .file in
     let j = f .result .at in
@@ -132,16 +132,16 @@ returns-2 c =
     let n = count (c .before) in
     ap (λ (q : Port). record { port = q; index = x .result; at = j + 1; packets = t .result }) e
     ∙ ap (λ (k : ℕ). record { port = lined u v; index = k; at = j + 1; packets = t .result }) (x .ensures)
-    ∙ ends-with (a .mask) j (f .result .index) u (a .writes .now) _ h i (t .result) (sym n) (c .if2 .taken)
+    ∙ ends-with (a .mask) j (f .result .lines .index) u (a .writes .now) _ h i (t .result) (sym n) (c .if2 .taken)
 
 loop-less : tie.Need-loop-less Inv-loop μ-loop
-loop-less c = omega (arith, c .before .before .before .before .before .before .before .before .before .before .before .if1 .left, c .before .before .before .before .before .before .before .before .before .before .before .before .before .skip .ensures .onto)
+loop-less c = omega (arith, c .before .before .before .before .before .before .before .before .before .before .before .if1 .left, c .before .before .before .before .before .before .before .before .before .before .before .before .before .before .skip .ensures .onto)
 
 loop-again : tie.Need-loop-again Inv-loop μ-loop
 loop-again c =
-    let at = c .before .before .before .before .before .before .before .before .before .before .before .before .before .before .before .loop in
-    let a = c .before .before .before .before .before .before .before .before .before .before .before .before .before .before .before .before .before .before .args in
-    let f = c .before .before .before .before .before .before .before .before .before .before .before .before .before .skip in
+    let at = c .before .before .before .before .before .before .before .before .before .before .before .before .before .before .before .before .loop in
+    let a = c .before .before .before .before .before .before .before .before .before .before .before .before .before .before .before .before .before .before .before .args in
+    let f = c .before .before .before .before .before .before .before .before .before .before .before .before .before .before .skip in
     let x = c .before .before .before .before .before .before .before .before .before .index-after in
     let t = c .before .before .before .before .before .before .file in
     let j = f .result .at in
@@ -155,8 +155,8 @@ loop-again c =
     let z : t .result ≡ 0 = c .if2 .left in (
       (omega arith, at .inv .0 .1),
       (
-        rw (e, x .ensures) (ready-lined u (f .result .index) (a .mask) v r),
-        rw (e, x .ensures) (goes-on (a .mask) j (f .result .index) u (a .writes .now) _ h i (sym n ∙ z)),
+        rw (e, x .ensures) (ready-lined u (f .result .lines .index) (a .mask) v r),
+        rw (e, x .ensures) (goes-on (a .mask) j (f .result .lines .index) u (a .writes .now) _ h i (sym n ∙ z)),
       ),
     )
 

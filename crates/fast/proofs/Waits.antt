@@ -1,0 +1,88 @@
+-- While no packet is coming in, a write that is no start pulse leaves the receiver and its store as they are.
+use mathlib.Core.Path.{_≡_, refl, sym, ap, _∙_}
+use mathlib.Core.Bool.{Bool, true, false}
+use mathlib.Core.List.{List}
+use Prim.Native.Nat.{ℕ, _+_, _<_, _≤_}
+use native.Mathlib.Omega.{arith}
+use lib.Bits.{bitAnd}
+use lib.Dec.{eqb}
+use lib.ListN.{length, getD, drop}
+use borrow.Author.Tests.{eqb-true, eqb-false}
+use Rattle.receiver.specs.declared.Stage.{Stage}
+use Rattle.receiver.specs.declared.Stage.the-variants.{Idle, Receiving, Awaiting}
+use Rattle.receiver.specs.declared.Receiver.{Receiver}
+use Rattle.receiver.specs.Lines.{Pulse, p15High, bothHigh, pulseOf, indexed}
+use Rattle.receiver.specs.Receive.{Rx, Step, rxOf, Sound, quiet, written, stageNumber}
+use Rattle.receiver.specs.Store.{filed, packetsOf}
+use Rattle.receiver.specs.Port.{Port, stepAt}
+use Rattle.receiver.proofs.Pulses.{Low, is-release, is-low, on-release, low-idle, low-awaiting}
+use Rattle.run.specs.Run.{lined, runs, portOf}
+use Rattle.run.specs.declared.Lines.{Lines}
+use Rattle.run.proofs.Turns.{port, index-small, goes-on}
+use Rattle.fast.specs.declared.Fed.{Fed}
+use Rattle.fast.specs.Fast.{Passed}
+
+-- a stage that waits
+pub rests : (t : Stage) → t ≡ Idle → t ≡ Receiving → ⊥
+unfolding stageNumber
+rests t e f = let z : _≡_ {A = ℕ} 0 1 = ap stageNumber (sym e ∙ f) in absurd (omega arith)
+
+pub awaits : (t : Stage) → t ≡ Awaiting → t ≡ Receiving → ⊥
+unfolding stageNumber
+awaits t e f = let z : _≡_ {A = ℕ} 2 1 = ap stageNumber (sym e ∙ f) in absurd (omega arith)
+
+still-low : {p : Pulse} {b : ℕ} (r : Rx) (rel : Bool) → Low p b → (r .stage ≡ Receiving → ⊥) → written r p rel ≡ quiet r
+still-low {p} r rel l f = go (r .stage) refl
+  where
+    go : (t : Stage) → r .stage ≡ t → written r p rel ≡ quiet r
+    go Idle e = low-idle r rel l e
+    go Receiving e = absurd (f e)
+    go Awaiting e = low-awaiting r rel l e
+
+-- a write of v with the receiver r, which waits
+module _ (r : Rx) (rel : Bool) (v : ℕ) (f : r .stage ≡ Receiving → ⊥) (g : bitAnd v 0x30 ≡ 0 → ⊥) where
+  still : written r (pulseOf v) rel ≡ quiet r
+  still = go (eqb (bitAnd v 0x30) 0x30) refl
+    where
+      go : (b : Bool) → eqb (bitAnd v 0x30) 0x30 ≡ b → written r (pulseOf v) rel ≡ quiet r
+      go true e = rw (is-release v (eqb-true (bitAnd v 0x30) 0x30 e)) (on-release r rel)
+      go false e = still-low r rel (is-low v (eqb-false (bitAnd v 0x30) 0x30 e) g) f
+
+-- .. is passed by
+module _ (mask i x : ℕ) (r : Rx) (p15 both : Bool) (s ws : List ℕ) (h : i < length ws) (f : r .stage ≡ Receiving → ⊥)
+    (g : bitAnd (getD ws i 0) 0x30 ≡ 0 → ⊥) where
+  pub passes : runs mask i x (port r p15 both s) (drop i ws)
+      ≡ runs mask (i + 1) (indexed x mask p15 (getD ws i 0)) (port r (p15High (getD ws i 0)) (bothHigh (getD ws i 0)) s) (drop (i + 1) ws)
+  unfolding lined packetsOf filed quiet
+  passes =
+      let v : ℕ = getD ws i 0 in
+      let u : Port = port r p15 both s in
+      let q : stepAt u v ≡ quiet r = still r both v f g in
+      sym (goes-on mask i x u ws _ h refl (ap (λ (t : Step). packetsOf (t .done)) q))
+      ∙ ap (λ (t : Step). runs mask (i + 1) (indexed x mask p15 v) (port (t .next) (p15High v) (bothHigh v) (filed (t .done) (r .packet) s)) (drop (i + 1) ws)) q
+
+-- one write on
+module _ (mask i : ℕ) (rx : Receiver) (l : Lines) (ws : List ℕ) (h : i < length ws) (so : Sound (rxOf rx)) (hi : l .index < 255)
+    (hm : mask < 255) (f : rx .stage ≡ Receiving → ⊥) (g : bitAnd (getD ws i 0) 0x30 ≡ 0 → ⊥) where
+  abbrev pub beyond : Fed
+  beyond =
+      record {
+        rx = rx;
+        lines = record {
+          p15 = p15High (getD ws i 0);
+          both = bothHigh (getD ws i 0);
+          index = indexed (l .index) mask (l .p15) (getD ws i 0);
+        };
+        at = i + 1;
+      }
+
+  pub passed-one : Passed mask i rx l ws beyond
+  passed-one =
+      record {
+        onto = omega arith;
+        within = omega arith;
+        kept = refl;
+        sound = so;
+        few = index-small (l .index) mask (l .p15) (getD ws i 0) hi hm;
+        same = λ (s : List ℕ). passes mask i (l .index) (rxOf rx) (l .p15) (l .both) s ws h f g;
+      }
