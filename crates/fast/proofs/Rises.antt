@@ -1,11 +1,13 @@
 -- The joypad index after many rises of P15: rises add up, and under a mask of low bits they are a sum cut to those bits.
 use mathlib.Core.Path.{_≡_, refl, sym, ap, _∙_}
-use Prim.Native.Nat.{ℕ, zero, suc, _+_, _-_, _%_, _^_, _<_}
+use Prim.Native.Nat.{ℕ, zero, suc, _+_, _-_, _*_, _/_, _%_, _^_, _<_}
 use native.Mathlib.Nat.{add-zero, mod-add-mod}
 use native.Mathlib.Numerals.{add-one}
 use native.Mathlib.Omega.{arith}
-use lib.Bits.{bitAnd, and-mask, and-le-r}
-use Rattle.fast.specs.Fast.{rises}
+use mathlib.Core.Bool.{Bool, true, false, not, _&&_, cond}
+use lib.Bits.{bitAnd, and-mask, and-high, and-le-r}
+use Rattle.receiver.specs.Lines.{p15High, indexed}
+use Rattle.fast.specs.Fast.{rises, risesAt}
 
 pub rises-add : (n o x mask : ℕ) → rises n (rises o x mask) mask ≡ rises (o + n) x mask
 unfolding rises
@@ -32,6 +34,28 @@ rises-mask k (suc n) x =
 pub rises-low : (k n x : ℕ) → (n ≡ 0 → ⊥) → rises n x (2 ^ k - 1) ≡ (x + n) % 2 ^ k
 rises-low k zero x f = absurd (f refl)
 rises-low k (suc n) x f = rises-mask k n x
+
+-- under 2 the index stays from the first rise on
+two-stays : (y : ℕ) → bitAnd (bitAnd y 2 + 1) 2 ≡ bitAnd y 2
+two-stays y =
+    let e : bitAnd y 2 ≡ y / 2 % 2 * 2 = and-high y 1 1 in
+    and-high (bitAnd y 2 + 1) 1 1 ∙ omega arith
+
+pub rises-two : (n x : ℕ) → (n ≡ 0 → ⊥) → rises n x 2 ≡ bitAnd (x + 1) 2
+unfolding rises
+rises-two zero x f = absurd (f refl)
+rises-two (suc zero) x f = refl
+rises-two (suc (suc n)) x f =
+    ap (λ (y : ℕ). bitAnd (y + 1) 2) (rises-two (suc n) x (λ e. omega arith)) ∙ two-stays (x + 1)
+
+-- a write's step is its rise
+pub rises-at : (x mask : ℕ) (was : Bool) (v : ℕ) → indexed x mask was v ≡ rises (risesAt was v) x mask
+unfolding indexed risesAt rises
+rises-at x mask was v = go (p15High v && not was)
+  where
+    go : (b : Bool) → cond b (bitAnd (x + 1) mask) x ≡ rises (cond b 1 0) x mask
+    go true = refl
+    go false = refl
 
 pub rises-small : (n x mask : ℕ) → x < 255 → mask < 255 → rises n x mask < 255
 unfolding rises

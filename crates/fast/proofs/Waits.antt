@@ -1,13 +1,16 @@
 -- While no packet is coming in, a write that is no start pulse leaves the receiver and its store as they are.
 use mathlib.Core.Path.{_≡_, refl, sym, ap, _∙_}
-use mathlib.Core.Bool.{Bool, true, false}
+use mathlib.Core.Bool.{Bool, true, false, not, _&&_, cond}
 use mathlib.Core.List.{List}
-use Prim.Native.Nat.{ℕ, _+_, _<_, _≤_}
+use Prim.Native.Nat.{ℕ, zero, suc, _+_, _/_, _%_, _<_, _≤_}
+use native.Mathlib.Nat.{mod-lt}
 use native.Mathlib.Omega.{arith}
 use lib.Bits.{bitAnd}
-use lib.Dec.{eqb}
+use lib.Dec.{eqb, lit<, lit≤}
 use lib.ListN.{length, getD, drop}
 use borrow.Author.Tests.{eqb-true, eqb-false}
+use Rattle.bits.specs.Bit.{bitOf}
+use Rattle.bits.proofs.Tests.{either}
 use Rattle.receiver.specs.declared.Stage.{Stage}
 use Rattle.receiver.specs.declared.Stage.the-variants.{Idle, Receiving, Awaiting}
 use Rattle.receiver.specs.declared.Receiver.{Receiver}
@@ -20,7 +23,7 @@ use Rattle.run.specs.Run.{lined, runs, portOf}
 use Rattle.run.specs.declared.Lines.{Lines}
 use Rattle.run.proofs.Turns.{port, index-small, goes-on}
 use Rattle.fast.specs.declared.Fed.{Fed}
-use Rattle.fast.specs.Fast.{Passed}
+use Rattle.fast.specs.Fast.{risesAt, Passed}
 
 -- a stage that waits
 pub rests : (t : Stage) → t ≡ Idle → t ≡ Receiving → ⊥
@@ -86,3 +89,26 @@ module _ (mask i : ℕ) (rx : Receiver) (l : Lines) (ws : List ℕ) (h : i < len
         few = index-small (l .index) mask (l .p15) (getD ws i 0) hi hm;
         same = λ (s : List ℕ). passes mask i (l .index) (rxOf rx) (l .p15) (l .both) s ws h f g;
       }
+
+-- a write rises once at most
+pub at-most-one : (was : Bool) (v : ℕ) → risesAt was v ≤ 1
+unfolding risesAt
+at-most-one was v = either (λ (n : ℕ). n ≤ 1) (p15High v && not was) (λ e. lit≤ tt) (λ e. lit≤ tt)
+
+-- P15 was high; or it was low, and bit 5 tells
+pub stays-high : (v : ℕ) → risesAt true v ≡ 0
+unfolding risesAt
+stays-high v = go (p15High v)
+  where
+    go : (b : Bool) → _≡_ {A = ℕ} (cond (b && false) 1 0) 0
+    go true = refl
+    go false = refl
+
+pub risen-by : (v : ℕ) → risesAt false v ≡ v / 32 % 2
+unfolding risesAt p15High bitOf
+risen-by v = go (v / 32 % 2) (mod-lt (v / 32) (lit< tt))
+  where
+    go : (n : ℕ) → n < 2 → cond (eqb n 1 && true) 1 0 ≡ n
+    go zero h = refl
+    go (suc zero) h = refl
+    go (suc (suc n)) h = absurd (omega arith)

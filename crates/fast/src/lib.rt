@@ -6,8 +6,9 @@ ghost use lib.ListN.{length};
 ghost use Rattle.receiver.specs.Receive.{rxOf, Sound};
 ghost use Rattle.receiver.specs.declared.Stage.the-variants.{Receiving};
 ghost use Rattle.run.specs.Run.{runs, portOf, endedOf, Ready};
-ghost use Rattle.fast.specs.Fast.{rises, released, Passed};
+ghost use Rattle.fast.specs.Fast.{released, Passed};
 use gather::gather;
+use polling::index_rises;
 use polling::wait;
 use receiver::Receiver;
 use receiver::Stage;
@@ -139,7 +140,7 @@ fn feed(rx: Receiver, index: u8, mask: u8, writes: &[u8], from: usize) -> Fed
                 lo: g.word,
                 hi: 0,
             },
-            lines: released(index_rises(index, mask, g.ones)),
+            lines: released(index_rises(index, mask, bits::wide(g.ones))),
             at: g.at,
         };
     }
@@ -154,7 +155,7 @@ fn feed(rx: Receiver, index: u8, mask: u8, writes: &[u8], from: usize) -> Fed
                 lo: rx.lo,
                 hi: g.word,
             },
-            lines: released(index_rises(index, mask, g.ones)),
+            lines: released(index_rises(index, mask, bits::wide(g.ones))),
             at: g.at,
         };
     }
@@ -174,30 +175,4 @@ fn released(index: u8) -> Lines
         both: true,
         index: index,
     }
-}
-
-// The joypad index after P15 rose n times. The masks that MLT_REQ sets, but 2, are low bits: then the index counts.
-fn index_rises(index: u8, mask: u8, n: u8) -> u8
-    requires { ⌜ (index < 255) × (mask < 255) ⌝ }
-    ensures { λ r. ⌜ r ≡ rises n index mask ⌝ }
-{
-    if n == 0 {
-        return index;
-    }
-    if mask == 0 {
-        return 0;
-    }
-    if mask == 1 {
-        return (index & 1) + (n & 1) & 1;
-    }
-    if mask == 3 {
-        return (index & 3) + (n & 3) & 3;
-    }
-    let mut x = index;
-    let mut k: u8 = 0;
-    while k < n {
-        x = (x + 1) & mask;
-        k += 1;
-    }
-    x
 }
