@@ -3,3 +3,5 @@ pub mod Lanes
 pub mod Passes
 pub mod Rises
 pub mod Waits
+pub mod Bytes
+pub mod Polls

@@ -1,13 +1,15 @@
 -- While no packet is coming in, a write that is no start pulse leaves the receiver and its store as they are.
 use mathlib.Core.Path.{_≡_, refl, sym, ap, _∙_}
 use mathlib.Core.Bool.{Bool, true, false, not, _&&_, cond}
-use mathlib.Core.List.{List}
+use mathlib.Core.List.{List, _∷_}
 use Prim.Native.Nat.{ℕ, zero, suc, _+_, _/_, _%_, _<_, _≤_}
 use native.Mathlib.Nat.{mod-lt}
+use native.Mathlib.Numerals.{add-one}
 use native.Mathlib.Omega.{arith}
 use lib.Bits.{bitAnd}
 use lib.Dec.{eqb, lit<, lit≤}
 use lib.ListN.{length, getD, drop}
+use lib.Seq.{drop-cons}
 use borrow.Author.Tests.{eqb-true, eqb-false}
 use Rattle.bits.specs.Bit.{bitOf}
 use Rattle.bits.proofs.Tests.{either}
@@ -19,9 +21,9 @@ use Rattle.receiver.specs.Receive.{Rx, Step, rxOf, Sound, quiet, written, stage
 use Rattle.receiver.specs.Store.{filed, packetsOf}
 use Rattle.receiver.specs.Port.{Port, stepAt}
 use Rattle.receiver.proofs.Pulses.{Low, is-release, is-low, on-release, low-idle, low-awaiting}
-use Rattle.run.specs.Run.{lined, runs, portOf}
+use Rattle.run.specs.Run.{lined, onward, runs, portOf}
 use Rattle.run.specs.declared.Lines.{Lines}
-use Rattle.run.proofs.Turns.{port, index-small, goes-on}
+use Rattle.run.proofs.Turns.{port, index-small}
 use Rattle.fast.specs.declared.Fed.{Fed}
 use Rattle.fast.specs.Fast.{risesAt, Passed}
 
@@ -52,17 +54,14 @@ module _ (r : Rx) (rel : Bool) (v : ℕ) (f : r .stage ≡ Receiving → ⊥) (g
       go false e = still-low r rel (is-low v (eqb-false (bitAnd v 0x30) 0x30 e) g) f
 
 -- .. is passed by
-module _ (mask i x : ℕ) (r : Rx) (p15 both : Bool) (s ws : List ℕ) (h : i < length ws) (f : r .stage ≡ Receiving → ⊥)
-    (g : bitAnd (getD ws i 0) 0x30 ≡ 0 → ⊥) where
-  pub passes : runs mask i x (port r p15 both s) (drop i ws)
-      ≡ runs mask (i + 1) (indexed x mask p15 (getD ws i 0)) (port r (p15High (getD ws i 0)) (bothHigh (getD ws i 0)) s) (drop (i + 1) ws)
-  unfolding lined packetsOf filed quiet
+module _ (mask i x : ℕ) (r : Rx) (p15 both : Bool) (s : List ℕ) (v : ℕ) (vs : List ℕ) (f : r .stage ≡ Receiving → ⊥) (g : bitAnd v 0x30 ≡ 0 → ⊥) where
+  pub passes : runs mask i x (port r p15 both s) (v ∷ vs)
+      ≡ runs mask (suc i) (indexed x mask p15 v) (port r (p15High v) (bothHigh v) s) vs
+  unfolding runs onward lined packetsOf filed quiet
   passes =
-      let v : ℕ = getD ws i 0 in
-      let u : Port = port r p15 both s in
-      let q : stepAt u v ≡ quiet r = still r both v f g in
-      sym (goes-on mask i x u ws _ h refl (ap (λ (t : Step). packetsOf (t .done)) q))
-      ∙ ap (λ (t : Step). runs mask (i + 1) (indexed x mask p15 v) (port (t .next) (p15High v) (bothHigh v) (filed (t .done) (r .packet) s)) (drop (i + 1) ws)) q
+      let y : ℕ = indexed x mask p15 v in
+      let after : Step → Port = λ (t : Step). port (t .next) (p15High v) (bothHigh v) (filed (t .done) (r .packet) s) in
+      ap (λ (t : Step). onward (packetsOf (t .done)) (after t) y (suc i) (runs mask (suc i) y (after t) vs)) (still r both v f g)
 
 -- one write on
 module _ (mask i : ℕ) (rx : Receiver) (l : Lines) (ws : List ℕ) (h : i < length ws) (so : Sound (rxOf rx)) (hi : l .index < 255)
@@ -87,7 +86,10 @@ module _ (mask i : ℕ) (rx : Receiver) (l : Lines) (ws : List ℕ) (h : i < len
         kept = refl;
         sound = so;
         few = index-small (l .index) mask (l .p15) (getD ws i 0) hi hm;
-        same = λ (s : List ℕ). passes mask i (l .index) (rxOf rx) (l .p15) (l .both) s ws h f g;
+        same = λ (s : List ℕ).
+            ap (runs mask i (l .index) (portOf rx l s)) (drop-cons ws i 0 h)
+            ∙ passes mask i (l .index) (rxOf rx) (l .p15) (l .both) s (getD ws i 0) (drop (suc i) ws) f g
+            ∙ ap (λ (j : ℕ). runs mask j (indexed (l .index) mask (l .p15) (getD ws i 0)) (portOf rx (beyond .lines) s) (drop j ws)) (sym (add-one i));
       }
 
 -- a write rises once at most

@@ -140,7 +140,7 @@ fn feed(rx: Receiver, index: u8, mask: u8, writes: &[u8], from: usize) -> Fed
                 lo: g.word,
                 hi: 0,
             },
-            lines: released(index_rises(index, mask, bits::wide(g.ones))),
+            lines: released(index_rises(index, mask, g.ones as u64)),
             at: g.at,
         };
     }
@@ -155,7 +155,7 @@ fn feed(rx: Receiver, index: u8, mask: u8, writes: &[u8], from: usize) -> Fed
                 lo: rx.lo,
                 hi: g.word,
             },
-            lines: released(index_rises(index, mask, bits::wide(g.ones))),
+            lines: released(index_rises(index, mask, g.ones as u64)),
             at: g.at,
         };
     }

@@ -1,16 +1,22 @@
 -- The words are full or empty, so a gathered word stands beside the other.
-use Rattle.fast.specs.Fast.{rises, released}
+use Rattle.fast.specs.Fast.{released}
 use Rattle.fast.proofs.Passes.{join, stay}
 use Rattle.receiver.specs.Receive.{words}
 use native.Mathlib.Omega.{arith}
-use mathlib.Core.Path.{refl, ap, _∙_}
-use Prim.Native.Nat.{ℕ, _+_}
+use mathlib.Core.Path.{refl}
+use Prim.Native.Nat.{_+_}
 use borrow.Author.Needs.{needs}
 use Rattle.fast.proofs.feed.Statement.{statement}
 use Rattle.fast.proofs.feed.Tie as tie
 
 gather-requires : tie.Need-gather-requires
 gather-requires c κs = search needs
+
+cast-index-rises : tie.Need-cast-index-rises
+cast-index-rises c = search needs
+
+cast-index-rises-2 : tie.Need-cast-index-rises-2
+cast-index-rises-2 c = search needs
 
 index-rises-requires : tie.Need-index-rises-requires
 index-rises-requires c κs = search needs
@@ -23,7 +29,7 @@ returns c =
     let x = c .before .index-rises in
     let t = rw (c .before .before .before .before .if1 .taken) at (p .0 .1 .clear) in
     let j = join (a .mask) (a .from) (a .index) (x .result) 0 (0) (a .rx) (a .writes .now) (g .result) (g .result .count) (g .result .word) (0)
-    (p .0 .0) (p .0 .1) (c .before .before .before .before .if1 .taken) (omega (arith, t)) (p .1 .0 .0) (p .1 .0 .1) (g .ensures) (x .ensures ∙ ap (λ (k : ℕ). rises k (a .index) (a .mask)) (c .before .before .wide .ensures .0)) (omega (arith, g .ensures .few)) (omega arith) (omega arith) in
+    (p .0 .0) (p .0 .1) (c .before .before .before .before .if1 .taken) (omega (arith, t)) (p .1 .0 .0) (p .1 .0 .1) (g .ensures) (x .ensures) (omega (arith, g .ensures .few)) (omega arith) (omega arith) in
     rw (c .released .ensures) (j, refl)
 
 gather-requires-2 : tie.Need-gather-requires-2
@@ -43,14 +49,8 @@ returns-2 c =
     let x = c .before .index-rises2 in
     let t = rw (c .before .before .before .before .before .if2 .taken) at (p .0 .1 .clear) in
     let j = join (a .mask) (a .from) (a .index) (x .result) 64 (words (a .rx .lo) (a .rx .hi)) (a .rx) (a .writes .now) (g .result) (64 + g .result .count) (a .rx .lo) (g .result .word)
-    (p .0 .0) (p .0 .1) (c .before .before .before .before .before .if2 .taken) refl (p .1 .0 .0) (p .1 .0 .1) (g .ensures) (x .ensures ∙ ap (λ (k : ℕ). rises k (a .index) (a .mask)) (c .before .before .wide2 .ensures .0)) (omega (arith, g .ensures .few)) (omega arith) (omega (arith, t)) in
+    (p .0 .0) (p .0 .1) (c .before .before .before .before .before .if2 .taken) refl (p .1 .0 .0) (p .1 .0 .1) (g .ensures) (x .ensures) (omega (arith, g .ensures .few)) (omega arith) (omega (arith, t)) in
     rw (c .released2 .ensures) (j, refl)
-
-wide-requires : tie.Need-wide-requires
-wide-requires c κs = search needs
-
-wide-requires-2 : tie.Need-wide-requires-2
-wide-requires-2 c κs = search needs
 
 released-requires : tie.Need-released-requires
 released-requires c κs = search needs
@@ -72,13 +72,13 @@ feed-spec =
     tie.close
     (tie.spec
     gather-requires
-    wide-requires
+    cast-index-rises
     index-rises-requires
     released-requires
     returns
     gather-requires-2
     add-t15
-    wide-requires-2
+    cast-index-rises-2
     index-rises-requires-2
     released-requires-2
     returns-2
