@@ -7,6 +7,7 @@ ghost use Rattle.receiver.specs.Receive.{rxOf, Sound};
 ghost use Rattle.receiver.specs.declared.Stage.the-variants.{Receiving};
 ghost use Rattle.run.specs.Run.{runs, portOf, endedOf, Ready};
 ghost use Rattle.fast.specs.Fast.{released, Passed};
+use gather::eight;
 use gather::gather;
 use polling::index_rises;
 use polling::wait;
@@ -104,16 +105,18 @@ fn skip(rx: Receiver, lines: Lines, mask: u8, writes: &[u8], from: usize) -> Fed
     }
 }
 
-// Where both lines are high: one word of data pulses after the other.
+// Where both lines are high and data pulses are in sight: one word of them after the other.
 fn feed_both(rx: Receiver, lines: Lines, mask: u8, writes: &[u8], from: usize) -> Fed
     requires { ⌜ ((rx .stage ≡ Receiving) × Sound (rxOf rx)) × (((lines .index < 255) × (mask < 255)) × (from ≤ length (now writes))) ⌝ }
     ensures { λ r. ⌜ Passed mask from rx lines (now (writes .entry)) r ⌝ }
 {
     if lines.both {
         if lines.p15 {
-            let f = feed(rx, lines.index, mask, writes, from);
-            let half = f.rx;
-            return feed(half, f.lines.index, mask, writes, f.at);
+            if in_sight(rx.bits, writes, from) {
+                let f = feed(rx, lines.index, mask, writes, from);
+                let half = f.rx;
+                return feed(half, f.lines.index, mask, writes, f.at);
+            }
         }
     }
     Fed {
@@ -121,6 +124,20 @@ fn feed_both(rx: Receiver, lines: Lines, mask: u8, writes: &[u8], from: usize) -
         lines: lines,
         at: from,
     }
+}
+
+// Whether a packet's first word may begin here: of its four first pulses each has its release. Only a guess, so that lines at random
+// cost no more than this look.
+fn in_sight(bits: u8, writes: &[u8], from: usize) -> bool
+    requires { ⌜ from ≤ length (now writes) ⌝ }
+{
+    if bits != 0 {
+        return false;
+    }
+    if writes.len() - from < 8 {
+        return false;
+    }
+    eight(writes, from) & 0x3000300030003000 == 0x3000300030003000
 }
 
 // While a packet is coming in and both lines are high: a word of data pulses at once, where a word begins.
