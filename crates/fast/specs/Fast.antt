@@ -9,7 +9,7 @@ use lib.ListN.{length, getD, drop}
 use Rattle.receiver.specs.declared.Stage.the-variants.{Receiving}
 use Rattle.receiver.specs.declared.Receiver.{Receiver}
 use Rattle.receiver.specs.Receive.{rxOf, Sound}
-use Rattle.receiver.specs.Lines.{p15High}
+use Rattle.receiver.specs.Lines.{p15High, bothHigh, indexed}
 use Rattle.receiver.specs.Port.{Port}
 use Rattle.run.specs.Run.{runs, portOf}
 use Rattle.run.specs.declared.Lines.{Lines}
@@ -55,6 +55,10 @@ pub record Gave (ws : List ℕ) (from : ℕ) (g : Gathered) : Type 0 where
   pub few : g .count ≤ 64
   pub small : g .word < 2 ^ g .count
   pub feeds : Feeds (drop from ws) (drop (g .at) ws) (g .count) (g .word) (g .ones)
+
+-- the lines and the joypad index after a write of v
+unfoldable pub linesAfter : Lines → ℕ → ℕ → Lines
+linesAfter l mask v = record { p15 = p15High v; both = bothHigh v; index = indexed (l .index) mask (l .p15) v }
 
 -- both lines high
 abbrev pub released : ℕ → Lines

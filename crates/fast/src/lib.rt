@@ -6,7 +6,7 @@ ghost use lib.ListN.{length};
 ghost use Rattle.receiver.specs.Receive.{rxOf, Sound};
 ghost use Rattle.receiver.specs.declared.Stage.the-variants.{Receiving};
 ghost use Rattle.run.specs.Run.{runs, portOf, endedOf, Ready};
-ghost use Rattle.fast.specs.Fast.{released, Passed};
+ghost use Rattle.fast.specs.Fast.{linesAfter, released, Passed};
 use gather::eight;
 use gather::gather;
 use polling::index_rises;
@@ -36,62 +36,55 @@ pub fn run_fast(start: Receiver, lines: Lines, mask: u8, writes: &[u8], store: &
     ensures { λ r. ⌜ endedOf r (now (store .exit)) ≡ runs mask 0 (lines .index) (portOf start lines (now (store .entry))) (now (writes .entry)) ⌝ }
 {
     let mut rx = start;
-    let mut p15 = lines.p15;
-    let mut both = lines.both;
-    let mut index = lines.index;
+    let mut here = lines;
     let mut i: usize = 0;
     while i < writes.len() {
-        let here = Lines {
-            p15: p15,
-            both: both,
-            index: index,
-        };
         let f = skip(rx, here, mask, writes, i);
-        let now = f.rx;
-        let before = f.lines;
-        let at = f.at;
-        if at >= writes.len() {
-            return Ran {
-                rx: now,
-                lines: before,
-                at: at,
-                packets: 0,
-            };
-        }
-        let v = writes[at];
-        index = index_after(before.index, mask, before.p15, v);
-        let w = now.write(v, before.both);
-        let n = file(w, now.lo, now.hi, store);
-        rx = w.next;
-        p15 = p15_high(v);
-        both = both_high(v);
-        i = at + 1;
-        if n != 0 {
-            return Ran {
-                rx: rx,
-                lines: Lines {
-                    p15: p15,
-                    both: both,
-                    index: index,
-                },
-                at: i,
-                packets: n,
-            };
+        if f.at > i {
+            let later = f.rx;
+            let there = f.lines;
+            rx = later;
+            here = there;
+            i = f.at;
+        } else {
+            let v = writes[i];
+            let w = rx.write(v, here.both);
+            let n = file(w, rx.lo, rx.hi, store);
+            let next = w.next;
+            rx = next;
+            here = after(here, mask, v);
+            i += 1;
+            if n != 0 {
+                return Ran {
+                    rx: rx,
+                    lines: here,
+                    at: i,
+                    packets: n,
+                };
+            }
         }
     }
     Ran {
         rx: rx,
-        lines: Lines {
-            p15: p15,
-            both: both,
-            index: index,
-        },
+        lines: here,
         at: i,
         packets: 0,
     }
 }
 
-// By the stage: up to the next start pulse, or the whole of a packet's data pulses, as far as they are well formed. Kept small: it is
+// The lines and the joypad index after a write.
+fn after(lines: Lines, mask: u8, value: u8) -> Lines
+    requires { ⌜ lines .index < 255 ⌝ }
+    ensures { λ r. ⌜ r ≡ linesAfter lines mask value ⌝ }
+{
+    Lines {
+        p15: p15_high(value),
+        both: both_high(value),
+        index: index_after(lines.index, mask, lines.p15, value),
+    }
+}
+
+// By the stage: up to the next start pulse, or a word of a packet's data pulses, as far as they are well formed. Kept small: it is
 // asked at every write.
 fn skip(rx: Receiver, lines: Lines, mask: u8, writes: &[u8], from: usize) -> Fed
     requires { ⌜ Sound (rxOf rx) × (((lines .index < 255) × (mask < 255)) × (from ≤ length (now writes))) ⌝ }
@@ -100,22 +93,20 @@ fn skip(rx: Receiver, lines: Lines, mask: u8, writes: &[u8], from: usize) -> Fed
     let stage = rx.stage;
     match stage {
         Stage::Idle => wait(rx, lines, mask, writes, from),
-        Stage::Receiving => feed_both(rx, lines, mask, writes, from),
+        Stage::Receiving => feed_on(rx, lines, mask, writes, from),
         Stage::Awaiting => wait(rx, lines, mask, writes, from),
     }
 }
 
-// Where both lines are high and data pulses are in sight: one word of them after the other.
-fn feed_both(rx: Receiver, lines: Lines, mask: u8, writes: &[u8], from: usize) -> Fed
+// Where both lines are high and data pulses are in sight: a word of them.
+fn feed_on(rx: Receiver, lines: Lines, mask: u8, writes: &[u8], from: usize) -> Fed
     requires { ⌜ ((rx .stage ≡ Receiving) × Sound (rxOf rx)) × (((lines .index < 255) × (mask < 255)) × (from ≤ length (now writes))) ⌝ }
     ensures { λ r. ⌜ Passed mask from rx lines (now (writes .entry)) r ⌝ }
 {
     if lines.both {
         if lines.p15 {
             if in_sight(rx.bits, writes, from) {
-                let f = feed(rx, lines.index, mask, writes, from);
-                let half = f.rx;
-                return feed(half, f.lines.index, mask, writes, f.at);
+                return feed(rx, lines.index, mask, writes, from);
             }
         }
     }
@@ -126,12 +117,12 @@ fn feed_both(rx: Receiver, lines: Lines, mask: u8, writes: &[u8], from: usize) -
     }
 }
 
-// Whether a packet's first word may begin here: of its four first pulses each has its release. Only a guess, so that lines at random
+// Whether a word of a packet may begin here: of its four first pulses each has its release. Only a guess, so that lines at random
 // cost no more than this look.
 fn in_sight(bits: u8, writes: &[u8], from: usize) -> bool
     requires { ⌜ from ≤ length (now writes) ⌝ }
 {
-    if bits != 0 {
+    if bits & 0x3F != 0 {
         return false;
     }
     if writes.len() - from < 8 {
@@ -144,10 +135,9 @@ fn in_sight(bits: u8, writes: &[u8], from: usize) -> bool
 fn feed(rx: Receiver, index: u8, mask: u8, writes: &[u8], from: usize) -> Fed
     requires { ⌜ ((rx .stage ≡ Receiving) × Sound (rxOf rx)) × (((index < 255) × (mask < 255)) × (from ≤ length (now writes))) ⌝ }
     ensures { λ r. ⌜ Passed mask from rx (released index) (now (writes .entry)) r ⌝ }
-    ensures { λ r. ⌜ r .lines ≡ released (r .lines .index) ⌝ }
 {
+    let g = gather(writes, from);
     if rx.bits == 0 {
-        let g = gather(writes, from);
         return Fed {
             rx: Receiver {
                 stage: Stage::Receiving,
@@ -162,7 +152,6 @@ fn feed(rx: Receiver, index: u8, mask: u8, writes: &[u8], from: usize) -> Fed
         };
     }
     if rx.bits == 64 {
-        let g = gather(writes, from);
         return Fed {
             rx: Receiver {
                 stage: Stage::Receiving,

@@ -15,8 +15,8 @@ wait-requires c κs =
 enum-told-2 : tie.Need-enum-told-2
 enum-told-2 c = search needs
 
-feed-both-requires : tie.Need-feed-both-requires
-feed-both-requires c κs = search needs
+feed-on-requires : tie.Need-feed-on-requires
+feed-on-requires c κs = search needs
 
 enum-told-3 : tie.Need-enum-told-3
 enum-told-3 c = search needs
@@ -42,7 +42,7 @@ skip-spec =
     enum-told
     wait-requires
     enum-told-2
-    feed-both-requires
+    feed-on-requires
     enum-told-3
     wait-requires-2
     returns
