@@ -27,14 +27,16 @@ use Rattle.run.proofs.Turns.{port, index-small}
 use Rattle.fast.specs.declared.Fed.{Fed}
 use Rattle.fast.specs.Fast.{risesAt, Passed}
 
--- a stage that waits
-pub rests : (t : Stage) → t ≡ Idle → t ≡ Receiving → ⊥
+-- the stage by its number
+pub receives : (t : Stage) → stageNumber t ≡ 1 → t ≡ Receiving
 unfolding stageNumber
-rests t e f = let z : _≡_ {A = ℕ} 0 1 = ap stageNumber (sym e ∙ f) in absurd (omega arith)
+receives Idle e = absurd (omega arith)
+receives Receiving e = refl
+receives Awaiting e = absurd (omega arith)
 
-pub awaits : (t : Stage) → t ≡ Awaiting → t ≡ Receiving → ⊥
+pub waits : (t : Stage) → (stageNumber t ≡ 1 → ⊥) → t ≡ Receiving → ⊥
 unfolding stageNumber
-awaits t e f = let z : _≡_ {A = ℕ} 2 1 = ap stageNumber (sym e ∙ f) in absurd (omega arith)
+waits t f e = f (ap stageNumber e)
 
 still-low : {p : Pulse} {b : ℕ} (r : Rx) (rel : Bool) → Low p b → (r .stage ≡ Receiving → ⊥) → written r p rel ≡ quiet r
 still-low {p} r rel l f = go (r .stage) refl

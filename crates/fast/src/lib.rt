@@ -16,6 +16,7 @@ use receiver::Stage;
 use receiver::lines::both_high;
 use receiver::lines::index_after;
 use receiver::lines::p15_high;
+use receiver::stage_number;
 use receiver::store::file;
 use run::Lines;
 use run::Ran;
@@ -85,17 +86,16 @@ fn after(lines: Lines, mask: u8, value: u8) -> Lines
 }
 
 // By the stage: up to the next start pulse, or a word of a packet's data pulses, as far as they are well formed. Kept small: it is
-// asked at every write.
+// asked at every write, and each way is called in one place, so that what it answers stays in registers.
 fn skip(rx: Receiver, lines: Lines, mask: u8, writes: &[u8], from: usize) -> Fed
     requires { ⌜ Sound (rxOf rx) × (((lines .index < 255) × (mask < 255)) × (from ≤ length (now writes))) ⌝ }
     ensures { λ r. ⌜ Passed mask from rx lines (now (writes .entry)) r ⌝ }
 {
     let stage = rx.stage;
-    match stage {
-        Stage::Idle => wait(rx, lines, mask, writes, from),
-        Stage::Receiving => feed_on(rx, lines, mask, writes, from),
-        Stage::Awaiting => wait(rx, lines, mask, writes, from),
+    if stage_number(stage) == 1 {
+        return feed_on(rx, lines, mask, writes, from);
     }
+    wait(rx, lines, mask, writes, from)
 }
 
 // Where both lines are high and data pulses are in sight: a word of them.
