@@ -59,12 +59,6 @@ front-put k n r s buffer e f h =
     (λ t. over 0 (length (take (e t) (f t))) (take (e t) (f t)) buffer)
     ∙ ap (λ (m : ℕ). over 0 m (take (16 * n) s) buffer) (length-take-le (16 * n) s h)
 
-pub few-packets : (d : Done) → Fits d → packetsOf d < 8
-unfolding packetsOf
-few-packets Nothing f = lit< tt
-few-packets (Packet n) f = lit< tt
-few-packets (Command n) f = f .1
-
 pub packets-answered : (d : Done) (s : List ℕ) → Fits d → length s ≡ storeBytes → packetsOf d ≡ packetsIn (answerOf d s)
 unfolding packetsOf answerOf packetsIn
 packets-answered Nothing s f l = refl

@@ -9,7 +9,8 @@ use Rattle.parts.specs.Parts.{storeBytes}
 use Rattle.receiver.proofs.Sound.{length-filed}
 use Rattle.receiver.specs.Receive.{words}
 use Rattle.receiver.specs.Store.{packetsOf, filed}
-use Rattle.port.proofs.Steps.{front-put, none-complete, one-complete, few-packets}
+use Rattle.run.proofs.Hears.{few-packets}
+use Rattle.port.proofs.Steps.{front-put, none-complete, one-complete}
 use Rattle.port.proofs.complete.Statement.{statement}
 use Rattle.port.proofs.complete.Tie as tie
 
