@@ -5,9 +5,9 @@ use mathlib.Core.List.{List, [], _∷_, _++_, map, append-assoc, append-nil}
 use mathlib.Core.Option.{Option, none, some}
 use Prim.Native.Nat.{ℕ, zero, suc, _+_, _-_, _*_, _/_, _≤_, _<_}
 use native.Mathlib.Omega.{arith}
-use native.Mathlib.Nat.{sub-zero, zero-sub, suc-sub-suc}
 use lib.ListN.{length, take, drop, length-take, length-drop, length-append}
-use lib.Seq.{drop-drop, take-nil, take-at}
+use lib.Seq.{drop-drop, take-at}
+use Rattle.bits.proofs.Overs.{drop-take}
 use Rattle.layout.specs.Block.{load, save}
 use Rattle.layout.specs.Good.{Good}
 use Rattle.layout.specs.Sgb.{Sgb}
@@ -83,12 +83,6 @@ told-buffer (some c) r command w = go (length c / 16) refl
         ap (λ (l : List ℕ). completed l ∷ []) (take-at c (drop (length c) command) (16 * suc n) (omega (arith, w .packets)))
 
 -- ---- the part of a buffer that is left
-
-drop-take : (n a : ℕ) (l : List ℕ) → drop n (take a l) ≡ take (a - n) (drop n l)
-drop-take zero a l = rw (sub-zero a)
-drop-take (suc n) zero l = rw (zero-sub (suc n))
-drop-take (suc n) (suc a) [] = sym (take-nil (suc a - suc n))
-drop-take (suc n) (suc a) (x ∷ l) = rw (suc-sub-suc) (drop-take n a l)
 
 part-left : (from upto n : ℕ) (b : List ℕ) → drop n (take (upto - from) (drop from b)) ≡ take (upto - (from + n)) (drop (from + n) b)
 part-left from upto n b =
