@@ -20,7 +20,7 @@ use Rattle.receiver.proofs.Checks.{v3-says, v3-true}
 use Rattle.receiver.proofs.Words.{length-bytes}
 use Rattle.parts.specs.Parts.{blockBytes, maskAt, indexAt, padsAt, stageAt, presetOnAt, countdownAt, kindAt, frozenOnAt, packetAt, packetBytes, storeAt, storeBytes, presetAt, presetBytes, palettesAt, palettesBytes, mapAt, mapBytes, systemAt, systemBytes, filesAt, filesBytes, liveAt, captureBytes, frozenAt, tilesAt, tilesBytes, borderMapAt, borderMapBytes, borderPalettesAt, borderPalettesBytes, sizes, sum}
 use Rattle.layout.specs.Block.{byte, flag, isSet, isHeld, valueOf, load, save, parts}
-use Rattle.layout.specs.Valid.{v1, v2, v3, v4, v5, v6, maskAllows, validParts, valid}
+use Rattle.layout.specs.Valid.{v1, v2, v3, v4, v5, v6, maskAllows, validParts, valid, Valid}
 use Rattle.layout.specs.Sgb.{Sgb}
 use Rattle.layout.specs.Good.{Good, GoodPort, GoodGame, GoodSnes}
 use Rattle.layout.proofs.Cut.{get-part, length-flat}
@@ -182,3 +182,7 @@ module _ (u : Sgb) (g : Good u) where
       (and-true (v2 (save u)) _ two-kept
       (and-true (v3 (save u)) _ three-kept
       (and-true (v4 (save u)) _ four-kept (and-true (v5 (save u)) _ five-kept six-kept)))))
+
+-- so a block that is told as the one of a good unit is valid
+pub saved-valid : (u : Sgb) → Good u → (b : List ℕ) → b ≡ save u → Valid b
+saved-valid u g b e = record { long = ap length e ∙ length-save u g; tested = ap valid e ∙ good-valid u g }

@@ -13,10 +13,8 @@ use Rattle.bits.specs.Over.{over}
 use Rattle.bits.proofs.Overs.{length-over}
 use Rattle.bits.proofs.Tests.{either}
 use Rattle.layout.specs.Block.{load, save}
-use Rattle.layout.specs.Good.{Good}
 use Rattle.layout.specs.Sgb.{Sgb}
-use Rattle.layout.specs.Valid.{Valid}
-use Rattle.layout.proofs.Goods.{valid-good, good-valid, length-save}
+use Rattle.layout.proofs.Goods.{valid-good, saved-valid}
 use Rattle.rules.specs.Write.{written, answer}
 use Rattle.rules.specs.Screen.{screened}
 use Rattle.rules.proofs.Keeps.{WholeIf, good-screened}
@@ -31,11 +29,6 @@ use Rattle.log.specs.Steps.{Desk, Stepped, pending, playedTo, ranOn, end
 use Rattle.log.specs.declared.Reading.{Reading}
 use Rattle.log.proofs.Tells.{Kept, kept-played}
 use Rattle.log.proofs.Takes.{Fits, fits-marked, ended-at}
-
--- ---- a valid block
-
-pub good-saved : (u : Sgb) → Good u → Valid (save u)
-good-saved u g = record { long = length-save u g; tested = good-valid u g }
 
 -- ---- what is played
 
@@ -87,7 +80,7 @@ ran-keeps r d size at f h more =
     record {
       fit =
           record {
-            valid = good-saved (p .unit) (k .good);
+            valid = saved-valid (p .unit) (k .good) (save (p .unit)) refl;
             line-long = f .line-long;
             bytes-long = f .bytes-long;
             command-long = subst (λ (m : ℕ). storeBytes ≤ m) (sym (length-handed (p .told) (d .command) (k .whole) (f .command-long))) (f .command-long);
@@ -136,7 +129,7 @@ ended-keeps (writes ws) r d at g f = record {
 ended-keeps (screen x) r d at g f = record {
   fit =
       record {
-        valid = good-saved (screened (load (d .block)) x) (good-screened (load (d .block)) x g (valid-good (d .block) (f .valid .tested)));
+        valid = saved-valid (screened (load (d .block)) x) (good-screened (load (d .block)) x g (valid-good (d .block) (f .valid .tested))) (save (screened (load (d .block)) x)) refl;
         line-long = f .line-long;
         bytes-long = filled-long (screen x) (d .bytes) g (f .bytes-long);
         command-long = f .command-long;

@@ -27,8 +27,8 @@ use Rattle.run.proofs.Hears.{ready-runs, complete}
 use Rattle.layout.specs.Block.{load, save}
 use Rattle.layout.specs.Good.{Good, GoodGame}
 use Rattle.layout.specs.Sgb.{Sgb}
-use Rattle.layout.specs.Valid.{valid, Valid}
-use Rattle.layout.proofs.Goods.{valid-good, good-back, good-valid, length-save}
+use Rattle.layout.specs.Valid.{Valid}
+use Rattle.layout.proofs.Goods.{valid-good, good-back, saved-valid}
 use Rattle.layout.proofs.Made.{made-of}
 use Rattle.rules.specs.Carry.{withPads, carried, carriedGame, carriedSnes, plainly}
 use Rattle.rules.specs.Write.{meant, stepped, advanced, answer, written}
@@ -213,7 +213,7 @@ module _ (b ws m : List ℕ) (ok : Valid b) (made : m ≡ save (ranUnit (load b)
   all = plays (load b) ws (good-ready (load b) (valid-good b (ok .tested)))
 
   pub ran-valid : Valid m
-  ran-valid = record { long = ap length made ∙ length-save (ranUnit (load b) e′) (f .good); tested = ap valid made ∙ good-valid (ranUnit (load b) e′) (f .good) }
+  ran-valid = saved-valid (ranUnit (load b) e′) (f .good) m made
 
   pub played-at : e′ .at ≡ played (load b) ws .at
   played-at = sym (ap (λ (p : Played). p .at) all)

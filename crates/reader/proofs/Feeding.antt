@@ -10,14 +10,13 @@ use Rattle.bits.proofs.Tests.{either}
 use Rattle.parts.specs.Parts.{blockBytes, storeBytes, captureBytes}
 use Rattle.layout.specs.Fresh.{fresh, postBoot}
 use Rattle.layout.specs.Valid.{Valid}
-use Rattle.layout.specs.Block.{save}
 use Rattle.layout.proofs.Freshes.{fresh-good}
+use Rattle.layout.proofs.Goods.{saved-valid}
 use Rattle.line.specs.Line.{lineDigits}
 use Rattle.log.specs.Steps.{Desk, desk, begun, Filling, fill, filledTo, Full, left, lastLf, Fit}
 use Rattle.log.specs.declared.Filled.{Filled}
 use Rattle.log.specs.declared.Reading.{Reading}
 use Rattle.log.proofs.Fills.{Fill·Keeps, fill-keeps, fill-less}
-use Rattle.log.proofs.Keeps.{good-saved}
 use Rattle.reader.specs.Fed.{Sized, Kept}
 use Rattle.reader.specs.declared.Fed.{Fed}
 
@@ -63,7 +62,7 @@ kept-more r m n f e h k = record { fit = k .fit; counted = omega (arith, k .coun
 -- a fresh unit and the buffers of the programs
 boot-valid : (b : List ℕ) → b ≡ postBoot → Valid b
 unfolding postBoot
-boot-valid b e = subst⁻¹ Valid e (good-saved (fresh true) (fresh-good true))
+boot-valid b e = saved-valid (fresh true) (fresh-good true) b e
 
 pub boot-fit : (d : Desk) (b : List ℕ) (r : Reading) → Sized d → b ≡ postBoot → r ≡ begun → Fit r (desk b (d .line) (d .bytes) (d .command))
 boot-fit d b r s e h = subst⁻¹ (λ (x : Reading). Fit x (desk b (d .line) (d .bytes) (d .command))) h

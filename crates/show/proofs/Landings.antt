@@ -1,5 +1,5 @@
 -- What a screen leaves, told by parts (`Made`), is the block of the unit after it: the parts of the one are the parts of the other.
-use mathlib.Core.Path.{_≡_, sym, ap, _∙_, subst⁻¹}
+use mathlib.Core.Path.{_≡_, sym, ap, _∙_}
 use mathlib.Core.Bool.{true, false}
 use mathlib.Core.List.{List}
 use Prim.Native.Nat.{ℕ, _+_, _≤_}
@@ -21,13 +21,12 @@ use Rattle.transfer.proofs.Parts.{page-long, border-long}
 use Rattle.layout.specs.Block.{load, save, parts}
 use Rattle.layout.specs.Good.{Good}
 use Rattle.layout.specs.Sgb.{Sgb}
-use Rattle.layout.proofs.Goods.{valid-good, good-valid, good-back}
+use Rattle.layout.proofs.Goods.{valid-good, good-back, saved-valid}
 use Rattle.layout.proofs.Made.{Made, made-of, made-put, made-set, made-save, over-inside}
 use Rattle.layout.proofs.Saved.{clauses, save-load}
 use Rattle.rules.specs.Screen.{captured, withSystem, withFiles, withTiles, withBorder, landed, landing, shown, screened}
 use Rattle.rules.proofs.Keeps.{captured-good}
 use Rattle.carry.specs.Carrying.{Valid}
-use Rattle.carry.proofs.Steps.{held}
 use Rattle.show.specs.Shown.{withSnes, snesBlock, countedDown}
 
 -- ---- the two bytes
@@ -121,8 +120,7 @@ module _ (b : List ℕ) (v : Valid b) where
 
   pub captured-valid : (x e : List ℕ) → length x ≡ captureBytes → e ≡ snesBlock (captured x) b → Valid e
   unfolding snesBlock
-  captured-valid x e l q =
-      subst⁻¹ (λ (y : List ℕ). Valid y) q (held (save (withSnes (captured x) (load b))) (good-valid (withSnes (captured x) (load b)) (captured-whole x l)))
+  captured-valid x e l q = saved-valid (withSnes (captured x) (load b)) (captured-whole x l) e q
 
   pub all-shown : (x : List ℕ) (n : Landed) (e last : List ℕ) → length x ≡ captureBytes → n ≡ landing (load b .snes) → e ≡ snesBlock (captured x) b
       → last ≡ snesBlock (landed n x) e → last ≡ save (screened (load b) x)

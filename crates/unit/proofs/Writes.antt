@@ -11,10 +11,10 @@ use Rattle.receiver.specs.Port.{answered}
 use Rattle.attributes.specs.Data.{Whole}
 use Rattle.commands.specs.Command.{Command, decode}
 use Rattle.layout.specs.Block.{load, save}
-use Rattle.layout.specs.Valid.{valid, Valid}
+use Rattle.layout.specs.Valid.{Valid}
 use Rattle.layout.specs.Good.{Good}
 use Rattle.layout.specs.Sgb.{Sgb}
-use Rattle.layout.proofs.Goods.{valid-good, good-back, good-valid, length-save}
+use Rattle.layout.proofs.Goods.{valid-good, good-back, saved-valid}
 use Rattle.rules.specs.Carry.{plainly, carriedGame, carriedSnes, carried}
 use Rattle.rules.specs.Write.{meant, carries, stepped, written, answer}
 use Rattle.rules.proofs.Keeps.{Complete, WholeIf, complete-whole, answered-whole, good-stepped}
@@ -70,9 +70,7 @@ said u v n before buffer g e some-in f = go (answered (u .port) v) (answered-who
 
 -- the block between the two is valid
 pub stepped-valid : (b m : List ℕ) (v : ℕ) → Valid b → m ≡ save (stepped (load b) v) → Valid m
-stepped-valid b m v k e =
-    let g : Good (stepped (load b) v) = good-stepped (load b) v (valid-good b (k .tested)) in
-    record { long = ap length e ∙ length-save (stepped (load b) v) g; tested = ap valid e ∙ good-valid (stepped (load b) v) g }
+stepped-valid b m v k e = saved-valid (stepped (load b) v) (good-stepped (load b) v (valid-good b (k .tested))) m e
 
 -- and what is carried out on it leaves the block of the written unit
 pub carried-out : (b m x d : List ℕ) (v n : ℕ) (buffer : List ℕ) → Valid b → m ≡ save (stepped (load b) v) → Said (load b) v n buffer → d ≡ take (16 * n) buffer
