@@ -33,10 +33,10 @@ use Rattle.layout.proofs.Made.{made-of}
 use Rattle.rules.specs.Carry.{withPads, carried, carriedGame, carriedSnes, plainly}
 use Rattle.rules.specs.Write.{meant, stepped, advanced, answer, written}
 use Rattle.rules.proofs.Keeps.{WholeIf, answered-whole, good-stepped, good-written}
-use Rattle.port.specs.Bytes.{linesOf, putReceiver, putLines, handed, packetsIn}
-use Rattle.port.proofs.Steps.{port-made, length-receiver}
+use Rattle.port.specs.Bytes.{linesOf, putReceiver, putLines, handed, packetsIn, taken, settled}
+use Rattle.port.proofs.Steps.{port-made, length-receiver, packets-taken}
 use Rattle.carry.specs.Carrying.{carriedBlock}
-use Rattle.play.specs.Play.{Played, played, taken, settled, handedOver, commandOf, ranTo, ranUnit}
+use Rattle.play.specs.Play.{Played, played, handedOver, commandOf, ranTo, ranUnit}
 use Rattle.play.proofs.Plays.{further, with-store, none-written, one-written, one-stepped, mk, plays}
 
 -- ---- a good unit may run
@@ -162,14 +162,6 @@ module _ (b : List ℕ) (ok : Valid b) (r : Receiver) (l : Lines) (rx : rxOf r �
 
 -- ---- a run's command
 
-packets-told : (d : Ended) → d .packets < 8 → length (d .port .store) ≡ storeBytes → d .packets ≡ packetsIn (commandOf d)
-unfolding commandOf taken packetsIn
-packets-told d few long = go (d .packets) (d .port .store) few long
-  where
-    go : (n : ℕ) (s : List ℕ) → n < 8 → length s ≡ storeBytes → n ≡ packetsIn (taken n s)
-    go zero s few long = refl
-    go (suc n) s few long = omega (arith, length-take (16 * suc n) s)
-
 none-carried : (d : Ended) (u : Sgb) → d .packets ≡ 0 → u ≡ carried (meant (commandOf d)) u
 unfolding commandOf taken meant carried carriedGame carriedSnes plainly
 none-carried d u z = go (d .packets) z
@@ -224,7 +216,7 @@ module _ (b ws m : List ℕ) (ok : Valid b) (made : m ≡ save (ranUnit (load b)
   told-packets : e′ .packets ≡ packetsIn (commandOf e′)
   told-packets =
       let r : Ready (load b .port) (load b .game .index) (load b .game .pads) = good-ready (load b) (valid-good b (ok .tested)) in
-      packets-told e′
+      unfold commandOf in packets-taken (e′ .packets) (e′ .port .store)
       (unfold ranTo in complete (load b .game .pads) 0 (load b .game .index) (load b .port) ws r .few)
       (unfold ranTo in ready-runs (load b .game .pads) 0 (load b .game .index) (load b .port) ws r .long)
 
