@@ -13,7 +13,7 @@ use Rattle.layout.specs.Valid.{Valid}
 use Rattle.layout.proofs.Freshes.{fresh-good}
 use Rattle.layout.proofs.Goods.{saved-valid}
 use Rattle.line.specs.Line.{lineDigits}
-use Rattle.log.specs.Steps.{Desk, desk, begun, Filling, fill, filledTo, Full, left, lastLf, Fit}
+use Rattle.log.specs.Steps.{Desk, desk, begun, Filling, fill, filledTo, Full, left, lastLf, stepRoom, Fit}
 use Rattle.log.specs.declared.Filled.{Filled}
 use Rattle.log.specs.declared.Reading.{Reading}
 use Rattle.log.proofs.Fills.{Fill·Keeps, fill-keeps, fill-less}
@@ -47,7 +47,7 @@ module _ (r₀ r : Reading) (d : Desk) (chunk : List ℕ) (at : ℕ) (out : List
     counted = omega (arith, at-is, ap (λ (x : Reading). x .number) reading-is, k .counted, t .counted);
   }
 
-  pub filled-less : 0 < left r (length chunk) at → 256 ≤ length out → left (g .reading) (length chunk) (g .at) < left r (length chunk) at
+  pub filled-less : 0 < left r (length chunk) at → stepRoom ≤ length out → left (g .reading) (length chunk) (g .at) < left r (length chunk) at
   filled-less more big =
       subst⁻¹ (λ (n : ℕ). n < left r (length chunk) at) (ap₂ (λ (x : Reading) (i : ℕ). left x (length chunk) i) reading-is at-is)
       (fill-less (length out) r d chunk at (t .fit) (t .within) more big)
