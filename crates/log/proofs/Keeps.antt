@@ -19,6 +19,7 @@ use Rattle.rules.specs.Write.{written, answer}
 use Rattle.rules.specs.Screen.{screened}
 use Rattle.rules.proofs.Keeps.{WholeIf, good-screened}
 use Rattle.port.specs.Bytes.{handed}
+use Rattle.unit.proofs.Writes.{length-handed}
 use Rattle.play.specs.Play.{Played, stop, played}
 use Rattle.line.specs.Line.{Meaning, writes, screen, refused, lineDigits}
 use Rattle.line.specs.Lines.{meaningMarked}
@@ -49,11 +50,6 @@ at-least u (v ∷ vs) h = go (answer u v)
     go : (o : Option (List ℕ)) → 0 < stop o (written u v) (played (written u v) vs) .at
     go none = unfold stop in omega arith
     go (some c) = unfold stop in omega arith
-
-pub length-handed : (o : Option (List ℕ)) (command : List ℕ) → WholeIf o → storeBytes ≤ length command → length (handed o command) ≡ length command
-unfolding handed
-length-handed none command w h = refl
-length-handed (some c) command w h = simp (length-append, length-drop) (omega (arith, w .most))
 
 pub pending-long : (r : Reading) (d : Desk) → Fit r d → length (pending r (d .bytes)) ≡ r .upto - r .from
 unfolding pending

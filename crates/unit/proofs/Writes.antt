@@ -5,8 +5,9 @@ use mathlib.Core.List.{List}
 use mathlib.Core.Option.{Option, none, some}
 use Prim.Native.Nat.{ℕ, _*_, _≤_}
 use native.Mathlib.Omega.{arith}
-use lib.ListN.{length, take, drop, length-take}
+use lib.ListN.{length, take, drop, length-take, length-append, length-drop}
 use lib.Seq.{take-at}
+use Rattle.parts.specs.Parts.{storeBytes}
 use Rattle.attributes.specs.Data.{Whole}
 use Rattle.commands.specs.Command.{Command, decode}
 use Rattle.layout.specs.Block.{load, save}
@@ -27,6 +28,12 @@ pub nothing-in : (o : Option (List ℕ)) → WholeIf o → packetsIn o ≡ 0 →
 unfolding packetsIn
 nothing-in none w e = refl
 nothing-in (some d) w e = absurd (omega (arith, w .least))
+
+-- it leaves the buffer's length
+pub length-handed : (o : Option (List ℕ)) (buffer : List ℕ) → WholeIf o → storeBytes ≤ length buffer → length (handed o buffer) ≡ length buffer
+unfolding handed
+length-handed none buffer w h = refl
+length-handed (some d) buffer w h = simp (length-append, length-drop) (omega (arith, w .most))
 
 -- none: there is nothing to carry out
 pub none-carried : (o : Option (List ℕ)) → WholeIf o → packetsIn o ≡ 0 → (u : Sgb) → u ≡ carried (meant o) u
@@ -63,20 +70,20 @@ front-carried u g o n m buffer x e f h =
 
 -- ---- a write
 
-whole : (u : Sgb) (v : ℕ) → Good u → WholeIf (answer u v)
+pub answer-whole : (u : Sgb) (v : ℕ) → Good u → WholeIf (answer u v)
 unfolding answer
-whole u v g = answered-whole (u .port) v (g .port)
+answer-whole u v g = answered-whole (u .port) v (g .port)
 
 pub nothing-said : (u : Sgb) (v : ℕ) → Good u → packetsIn (answer u v) ≡ 0 → save (stepped u v) ≡ save (written u v)
 unfolding written carries answer
-nothing-said u v g e = ap save (none-carried (answer u v) (whole u v g) e (stepped u v))
+nothing-said u v g e = ap save (none-carried (answer u v) (answer-whole u v g) e (stepped u v))
 
 pub none-answered : (u : Sgb) (v : ℕ) → Good u → packetsIn (answer u v) ≡ 0 → counted (answer u v) ≡ none
 unfolding counted
-none-answered u v g e = ap counted (nothing-in (answer u v) (whole u v g) e)
+none-answered u v g e = ap counted (nothing-in (answer u v) (answer-whole u v g) e)
 
 pub said : (u : Sgb) (v n : ℕ) (before buffer : List ℕ) → Good u → n ≡ packetsIn (answer u v) → (n ≡ 0 → ⊥) → buffer ≡ handed (answer u v) before → Front (answer u v) n buffer
-said u v n before buffer g = front (answer u v) n before buffer (whole u v g)
+said u v n before buffer g = front (answer u v) n before buffer (answer-whole u v g)
 
 -- the block between the two is valid
 pub stepped-valid : (b m : List ℕ) (v : ℕ) → Valid b → m ≡ save (stepped (load b) v) → Valid m
