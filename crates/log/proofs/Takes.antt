@@ -25,7 +25,7 @@ use Rattle.line.specs.Lines.{markedFrom, meaningMarked, grown}
 use Rattle.line.specs.Split.{heldAs, nothing, taken, tookHeld, tookLine, upToLf, lfAt}
 use Rattle.line.specs.Calls.{filled}
 use Rattle.line.proofs.Splitting.{lines-lf, lines-end, kept-held, took-grown}
-use Rattle.log.specs.Events.{Event, completed, refusal, told, writeEvents, afterWrites, lineEvents, afterLine, eventsFrom, afterLines}
+use Rattle.log.specs.Events.{Event, completed, refusal, writeEvents, afterWrites, lineEvents, afterLine, eventsFrom, afterLines}
 use Rattle.log.specs.Steps.{Desk, Stepped, pending, endedAs, ended, took, tookOn, holding, withLine, toldBy, eventsOn, toTell, toEnd, Fit}
 use Rattle.log.specs.declared.Reading.{Reading}
 use Rattle.log.specs.declared.Told.the-variants.{Nothing}

@@ -22,23 +22,23 @@ use Rattle.parts.specs.Parts.{captureBytes}
 use Rattle.line.specs.Line.{Meaning, writes, screen, refused, lineDigits}
 use Rattle.line.specs.Lines.{markedFrom, meaningMarked}
 use Rattle.line.specs.Split.{heldAs}
-use Rattle.log.specs.Events.{Event, completed, refusal, told, writeEvents, afterWrites, lineEvents, afterLine, eventsFrom, afterLines}
+use Rattle.log.specs.Events.{Event, completed, refusal, answerEvents, writeEvents, afterWrites, lineEvents, afterLine, eventsFrom, afterLines}
 use Rattle.log.specs.Steps.{Desk, Stepped, pending, toldOf, playedTo, ranOn, toldBy, eventsOn, toTell, toEnd, Fit}
 use Rattle.log.specs.declared.Reading.{Reading}
 
 -- ---- writes that are played
 
-run-tells : (u : Sgb) (ws : List ℕ) → writeEvents u ws ≡ told (played u ws .told) ++ writeEvents (played u ws .unit) (drop (played u ws .at) ws)
-unfolding writeEvents played told
+run-tells : (u : Sgb) (ws : List ℕ) → writeEvents u ws ≡ answerEvents (played u ws .told) ++ writeEvents (played u ws .unit) (drop (played u ws .at) ws)
+unfolding writeEvents played answerEvents
 run-tells u [] = refl
 run-tells u (v ∷ vs) = go (answer u v) (run-tells (written u v) vs)
   where
     p : Played
     p = played (written u v) vs
 
-    go : (o : Option (List ℕ)) → writeEvents (written u v) vs ≡ told (p .told) ++ writeEvents (p .unit) (drop (p .at) vs)
-        → told o ++ writeEvents (written u v) vs
-        ≡ told (stop o (written u v) p .told) ++ writeEvents (stop o (written u v) p .unit) (drop (stop o (written u v) p .at) (v ∷ vs))
+    go : (o : Option (List ℕ)) → writeEvents (written u v) vs ≡ answerEvents (p .told) ++ writeEvents (p .unit) (drop (p .at) vs)
+        → answerEvents o ++ writeEvents (written u v) vs
+        ≡ answerEvents (stop o (written u v) p .told) ++ writeEvents (stop o (written u v) p .unit) (drop (stop o (written u v) p .at) (v ∷ vs))
     go none e = unfold stop in e
     go (some c) e = unfold stop in refl
 
@@ -71,8 +71,8 @@ kept-played u [] g = record { good = g; whole = tt }
 kept-played u (v ∷ vs) g = kept-stop (answer u v) (written u v) (played (written u v) vs) (answered-whole (u .port) v (g .port)) (good-written u v g) (kept-played (written u v) vs (good-written u v g))
 
 -- it stands in the buffer
-told-buffer : (o : Option (List ℕ)) (r : Reading) (command : List ℕ) → WholeIf o → toldBy (toldOf (packetsIn o)) r (handed o command) ≡ told o
-unfolding told handed packetsIn
+told-buffer : (o : Option (List ℕ)) (r : Reading) (command : List ℕ) → WholeIf o → toldBy (toldOf (packetsIn o)) r (handed o command) ≡ answerEvents o
+unfolding answerEvents handed packetsIn
 told-buffer none r command w = unfold toldOf toldBy in refl
 told-buffer (some c) r command w = go (length c / 16) refl
   where
@@ -105,10 +105,10 @@ module _ (r : Reading) (d : Desk) (at : ℕ) (f : Fit r d) where
       let ws′ : List ℕ = take (r .upto - (r .from + p .at)) (drop (r .from + p .at) (d .bytes)) in
       let e : drop (p .at) ws ≡ ws′ = part-left (r .from) (r .upto) (p .at) (d .bytes) in
       let more : Sgb → List Event = λ u. eventsFrom u (r .number) (map meaningMarked (markedFrom (heldAs (r .held) (d .line)) rest)) in
-      let a : writeEvents (load (d .block)) ws ≡ told (p .told) ++ writeEvents (p .unit) ws′ = run-tells (load (d .block)) ws ∙ ap (λ (l : List ℕ). told (p .told) ++ writeEvents (p .unit) l) e in
+      let a : writeEvents (load (d .block)) ws ≡ answerEvents (p .told) ++ writeEvents (p .unit) ws′ = run-tells (load (d .block)) ws ∙ ap (λ (l : List ℕ). answerEvents (p .told) ++ writeEvents (p .unit) l) e in
       let b : afterWrites (load (d .block)) ws ≡ afterWrites (p .unit) ws′ = run-ends (load (d .block)) ws ∙ ap (afterWrites (p .unit)) e in
       ap₂ (λ (x : List Event) (y : Sgb). x ++ more y) a b
-      ∙ append-assoc (told (p .told)) (writeEvents (p .unit) ws′) (more (afterWrites (p .unit) ws′))
+      ∙ append-assoc (answerEvents (p .told)) (writeEvents (p .unit) ws′) (more (afterWrites (p .unit) ws′))
       ∙ ap₂ (λ (x : List Event) (y : Sgb). x ++ (writeEvents y ws′ ++ more (afterWrites y ws′))) (sym (told-buffer (p .told) (ranOn r d at .reading) (d .command) (k .whole))) (sym (good-back (p .unit) (k .good)))
 
   pub ran-ends : (rest : List ℕ) → toEnd r d rest ≡ toEnd (ranOn r d at .reading) (ranOn r d at .desk) rest
