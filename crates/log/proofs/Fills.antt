@@ -1,7 +1,7 @@
 -- A fill tells the next part of what is still to be told, and leaves the rest.
 use mathlib.Core.Path.{_≡_, refl, sym, ap, _∙_, subst⁻¹}
 use mathlib.Core.Bool.{Bool, true, false, cond, not, _&&_}
-use mathlib.Core.List.{List, [], _∷_, _++_, append-assoc}
+use mathlib.Core.List.{List, [], _++_, append-assoc}
 use Prim.Native.Nat.{ℕ, zero, suc, _+_, _-_, _≤_, _<_}
 use native.Mathlib.Omega.{arith}
 use borrow.Author.Tests.{ltb-true, ltb-false, leb-true, le-leb, lt-ltb}
@@ -11,7 +11,7 @@ use Rattle.bits.proofs.Tests.{either, and-left, and-right}
 use Rattle.layout.specs.Sgb.{Sgb}
 use Rattle.log.specs.Events.{Event}
 use Rattle.log.specs.Texts.{shown}
-use Rattle.log.specs.Steps.{Desk, Stepped, ranOn, playedTo, tookOn, stepped, eventsOn, goesOn, stepRoom, Filling, nextBy, next, fills, fill, left, toTell, toEnd, Fit}
+use Rattle.log.specs.Steps.{Desk, Stepped, ranOn, playedTo, stepped, eventsOn, goesOn, stepRoom, Filling, nextBy, next, fills, fill, left, toTell, toEnd, Fit}
 use Rattle.log.specs.declared.Reading.{Reading}
 use Rattle.log.proofs.Tells.{ran-tells, ran-ends}
 use Rattle.log.proofs.Takes.{took-tells, took-ends}

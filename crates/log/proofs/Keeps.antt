@@ -1,15 +1,14 @@
 -- A step keeps what steps require, goes on in the chunk, and leaves less to do.
-use mathlib.Core.Path.{_≡_, refl, sym, ap, _∙_, subst}
-use mathlib.Core.Bool.{Bool, true, false, cond}
-use mathlib.Core.List.{List, [], _∷_, _++_}
+use mathlib.Core.Path.{_≡_, refl, sym, _∙_, subst}
+use mathlib.Core.Bool.{Bool, true, false}
+use mathlib.Core.List.{List, [], _∷_}
 use mathlib.Core.Option.{Option, none, some}
-use Prim.Native.Nat.{ℕ, zero, suc, _+_, _-_, _*_, _≤_, _<_}
+use Prim.Native.Nat.{ℕ, suc, _+_, _-_, _≤_, _<_}
 use native.Mathlib.Omega.{arith}
-use borrow.Author.Tests.{ltb-true, ltb-false, leb-true}
-use lib.Dec.{ltb, leb, eqb}
-use lib.ListN.{length, take, drop, length-drop, length-take, length-append}
+use borrow.Author.Tests.{ltb-true, ltb-false}
+use lib.Dec.{ltb}
+use lib.ListN.{length, drop, length-drop, length-take}
 use Rattle.parts.specs.Parts.{captureBytes, storeBytes}
-use Rattle.bits.specs.Over.{over}
 use Rattle.bits.proofs.Overs.{length-over}
 use Rattle.bits.proofs.Tests.{either}
 use Rattle.layout.specs.Block.{load, save}
@@ -17,11 +16,10 @@ use Rattle.layout.specs.Sgb.{Sgb}
 use Rattle.layout.proofs.Goods.{valid-good, saved-valid}
 use Rattle.rules.specs.Write.{written, answer}
 use Rattle.rules.specs.Screen.{screened}
-use Rattle.rules.proofs.Keeps.{WholeIf, good-screened}
-use Rattle.port.specs.Bytes.{handed}
+use Rattle.rules.proofs.Keeps.{good-screened}
 use Rattle.unit.proofs.Writes.{length-handed}
 use Rattle.play.specs.Play.{Played, stop, played}
-use Rattle.line.specs.Line.{Meaning, writes, screen, refused, lineDigits}
+use Rattle.line.specs.Line.{Meaning, writes, screen, refused}
 use Rattle.line.specs.Lines.{meaningMarked}
 use Rattle.line.specs.Split.{heldAs, taken, tookHeld, tookLine, upToLf, lfAt}
 use Rattle.line.specs.Calls.{filled}
@@ -29,7 +27,7 @@ use Rattle.line.proofs.Splitting.{lf-within, took-fits, length-took}
 use Rattle.log.specs.Steps.{Desk, Stepped, pending, playedTo, ranOn, endedAs, ended, took, tookOn, stepped, holding, withLine, left, Fit}
 use Rattle.log.specs.declared.Reading.{Reading}
 use Rattle.log.proofs.Tells.{Kept, kept-played}
-use Rattle.log.proofs.Takes.{Fits, fits-marked, ended-at}
+use Rattle.log.proofs.Takes.{Fits, fits-marked}
 
 -- ---- what is played
 

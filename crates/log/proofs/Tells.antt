@@ -1,29 +1,24 @@
 -- Each step tells the next part of what is still to be told, and leaves the rest; so a fill does.
-use mathlib.Core.Path.{_≡_, refl, sym, ap, ap₂, _∙_, subst}
-use mathlib.Core.Bool.{Bool, true, false, cond}
-use mathlib.Core.List.{List, [], _∷_, _++_, map, append-assoc, append-nil}
+use mathlib.Core.Path.{_≡_, refl, sym, ap, ap₂, _∙_}
+use mathlib.Core.List.{List, [], _∷_, _++_, map, append-assoc}
 use mathlib.Core.Option.{Option, none, some}
-use Prim.Native.Nat.{ℕ, zero, suc, _+_, _-_, _*_, _/_, _≤_, _<_}
+use Prim.Native.Nat.{ℕ, zero, suc, _+_, _-_, _*_, _/_}
 use native.Mathlib.Omega.{arith}
-use lib.ListN.{length, take, drop, length-take, length-drop, length-append}
+use lib.ListN.{length, take, drop}
 use lib.Seq.{drop-drop, take-at}
 use Rattle.bits.proofs.Overs.{drop-take}
-use Rattle.layout.specs.Block.{load, save}
+use Rattle.layout.specs.Block.{load}
 use Rattle.layout.specs.Good.{Good}
 use Rattle.layout.specs.Sgb.{Sgb}
-use Rattle.layout.specs.Valid.{Valid}
-use Rattle.layout.proofs.Goods.{valid-good, good-back, good-valid, length-save}
+use Rattle.layout.proofs.Goods.{valid-good, good-back}
 use Rattle.rules.specs.Write.{written, answer}
-use Rattle.rules.specs.Screen.{screened}
-use Rattle.rules.proofs.Keeps.{WholeIf, good-written, answered-whole, good-screened}
+use Rattle.rules.proofs.Keeps.{WholeIf, good-written, answered-whole}
 use Rattle.port.specs.Bytes.{handed, packetsIn}
 use Rattle.play.specs.Play.{Played, stop, played}
-use Rattle.parts.specs.Parts.{captureBytes}
-use Rattle.line.specs.Line.{Meaning, writes, screen, refused, lineDigits}
 use Rattle.line.specs.Lines.{markedFrom, meaningMarked}
 use Rattle.line.specs.Split.{heldAs}
-use Rattle.log.specs.Events.{Event, completed, refusal, answerEvents, writeEvents, afterWrites, lineEvents, afterLine, eventsFrom, afterLines}
-use Rattle.log.specs.Steps.{Desk, Stepped, pending, toldOf, playedTo, ranOn, toldBy, eventsOn, toTell, toEnd, Fit}
+use Rattle.log.specs.Events.{Event, completed, answerEvents, writeEvents, afterWrites, eventsFrom, afterLines}
+use Rattle.log.specs.Steps.{Desk, pending, toldOf, playedTo, ranOn, toldBy, eventsOn, toTell, toEnd, Fit}
 use Rattle.log.specs.declared.Reading.{Reading}
 
 -- ---- writes that are played

@@ -1,18 +1,16 @@
 -- A turn of reading keeps what the steps of `log` require, and a fill leaves less to do.
-use mathlib.Core.Path.{_≡_, refl, sym, ap, ap₂, _∙_, subst⁻¹}
+use mathlib.Core.Path.{_≡_, ap, ap₂, _∙_, subst⁻¹}
 use mathlib.Core.Bool.{true}
 use mathlib.Core.List.{List}
-use Prim.Native.Nat.{ℕ, _+_, _*_, _≤_, _<_}
+use Prim.Native.Nat.{ℕ, _+_, _≤_, _<_}
 use native.Mathlib.Omega.{arith}
 use lib.Dec.{ltb}
 use lib.ListN.{length}
 use Rattle.bits.proofs.Tests.{either}
-use Rattle.parts.specs.Parts.{blockBytes, storeBytes, captureBytes}
 use Rattle.layout.specs.Fresh.{fresh, postBoot}
 use Rattle.layout.specs.Valid.{Valid}
 use Rattle.layout.proofs.Freshes.{fresh-good}
 use Rattle.layout.proofs.Goods.{saved-valid}
-use Rattle.line.specs.Line.{lineDigits}
 use Rattle.log.specs.Steps.{Desk, desk, begun, Filling, fill, filledTo, Full, left, lastLf, stepRoom, Fit}
 use Rattle.log.specs.declared.Filled.{Filled}
 use Rattle.log.specs.declared.Reading.{Reading}

@@ -1,6 +1,5 @@
 -- What reading keeps: the buffers are those that the steps of `log` require, and lines are counted within the bytes that came.
 use Prim.Native.Nat.{ℕ, _+_, _≤_}
-use mathlib.Core.List.{List}
 use mathlib.Core.Path.{_≡_}
 use lib.ListN.{length}
 use Rattle.parts.specs.Parts.{blockBytes, storeBytes, captureBytes}
