@@ -15,6 +15,10 @@ chunkBytes = 4096
 abbrev pub outBytes : ℕ
 outBytes = 2048
 
+-- as far as lines are counted before a read: what one more chunk brings then stays below 2^64
+abbrev pub mostLines : ℕ
+mostLines = 9223372036854775808
+
 -- the buffers as they are lent at first
 pub record Sized (d : Desk) : Type 0 where
   pub block-long : length (d .block) ≡ blockBytes
