@@ -7,6 +7,7 @@ use native.Mathlib.Omega.{arith}
 use borrow.Author.Tests.{ltb-true, leb-true, le-leb, le-ltb, ne-eqb}
 use lib.Dec.{ltb, leb}
 use Rattle.bits.specs.Bit.{bitOf}
+use Rattle.bits.proofs.Tests.{and-false}
 use Rattle.attribute_map.specs.Map.{columns, rows}
 use Rattle.attributes.specs.Data.{steps}
 use Rattle.attributes.specs.Blk.{strictly, within, inside, closed}
@@ -23,10 +24,6 @@ none-within a p b h = go (leb a p) (leb p b) refl refl
     go true true e f = absurd (omega (arith, leb-true a p e, leb-true p b f))
     go true false e f = refl
     go false t e f = refl
-
-and-false : (t : Bool) → t && false ≡ false
-and-false true = refl
-and-false false = refl
 
 -- "If x1 > x2 or y1 > y2 every cell is outside"
 pub crossed-x : (s : BlkSet) (x y : ℕ) → s .x2 < s .x1 → closed s x y ≡ false

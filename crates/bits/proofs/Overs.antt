@@ -1,11 +1,12 @@
 -- A list with a part replaced: its length, its parts, how the kit's `paste` (a copy half done) ends as one, and where it meets other lists.
 use mathlib.Core.Path.{_≡_, sym, ap, ap₂, _∙_}
 use mathlib.Core.List.{List, [], _∷_, _++_, append-assoc, append-nil}
-use Prim.Native.Nat.{ℕ, suc, _+_, _-_, _≤_, _<_}
+use Prim.Native.Nat.{ℕ, zero, suc, _+_, _-_, _≤_, _<_}
+use native.Mathlib.Nat.{sub-zero, zero-sub, suc-sub-suc}
 use native.Mathlib.Numerals.{add-one}
 use native.Mathlib.Omega.{arith}
 use lib.ListN.{length, take, drop, getD, set, length-append, length-take, length-drop, take-append-drop, drop-of-length-le, List·getD-append}
-use lib.Seq.{paste, take-length, drop-drop, take-append-le, drop-append-le, take-add, getD-take, getD-drop, length-take-le, drop-append-add, take-at, drop-at, set-split}
+use lib.Seq.{paste, take-length, drop-drop, take-append-le, drop-append-le, take-add, getD-take, getD-drop, length-take-le, drop-append-add, take-at, drop-at, take-nil, set-split}
 use Rattle.bits.specs.Over.{part, over}
 
 pub length-over : (at n : ℕ) (ys b : List ℕ) → at + n ≤ length b → length ys ≡ n → length (over at n ys b) ≡ length b
@@ -89,17 +90,14 @@ over-split at n m ys b h e =
     let first : length (take n ys) ≡ n = length-take-le n ys (omega arith) in
     ap (λ (l : List ℕ). over at (n + m) l b) (sym (take-append-drop n ys)) ∙ sym (over-over at n m (take n ys) (drop n ys) b h first)
 
--- a part without its first k elements
-drop-take : (k m : ℕ) (l : List ℕ) → k ≤ m → m ≤ length l → drop k (take m l) ≡ take (m - k) (drop k l)
-drop-take k m l h g =
-    let n : length (take m l) ≡ m = length-take-le m l g in
-    let n₂ : length (drop k (take m l)) ≡ m - k = simp length-drop (omega arith) in
-    sym (ap (λ (x : List ℕ). take (m - k) (drop k x)) (sym (take-append-drop m l))
-    ∙ ap (take (m - k)) (drop-append-le k (take m l) (drop m l) (omega arith))
-    ∙ take-at (drop k (take m l)) (drop m l) (m - k) n₂)
+-- the front of a list, and a part, without its first k elements
+pub drop-take : (k m : ℕ) (l : List ℕ) → drop k (take m l) ≡ take (m - k) (drop k l)
+drop-take zero m l = rw (sub-zero m)
+drop-take (suc k) zero l = rw (zero-sub (suc k))
+drop-take (suc k) (suc m) [] = sym (take-nil (suc m - suc k))
+drop-take (suc k) (suc m) (x ∷ l) = rw (suc-sub-suc) (drop-take k m l)
 
-pub drop-part : (b : List ℕ) (at m k : ℕ) → k ≤ m → at + m ≤ length b → part (at + k) (at + m - (at + k)) b ≡ drop k (part at m b)
-drop-part b at m k h g =
+pub drop-part : (b : List ℕ) (at m k : ℕ) → part (at + k) (at + m - (at + k)) b ≡ drop k (part at m b)
+drop-part b at m k =
     let e : at + m - (at + k) ≡ m - k = omega arith in
-    let n : m ≤ length (drop at b) = simp length-drop (omega arith) in
-    (λ t. take (e t) (sym (drop-drop k at b) t)) ∙ sym (drop-take k m (drop at b) h n)
+    (λ t. take (e t) (sym (drop-drop k at b) t)) ∙ sym (drop-take k m (drop at b))

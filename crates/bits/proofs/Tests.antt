@@ -21,6 +21,10 @@ pub and-true : (a b : Bool) → a ≡ true → b ≡ true → (a && b) ≡ true
 and-true true b e f = f
 and-true false b e f = e
 
+pub and-false : (a : Bool) → (a && false) ≡ false
+and-false true = refl
+and-false false = refl
+
 pub or-either : (a b : Bool) → (a || b) ≡ true → (a ≡ true) ⊎ (b ≡ true)
 or-either true b e = inl refl
 or-either false b e = inr e

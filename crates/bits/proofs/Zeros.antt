@@ -8,22 +8,18 @@ use borrow.Author.Tests.{eq-eqb, ne-eqb, eqb-true}
 use lib.ListN.{length, getD, drop, replicate}
 use lib.Dec.{eqb}
 use Rattle.bits.specs.Zero.{zeros}
-use Rattle.bits.proofs.Tests.{and-left, and-right}
+use Rattle.bits.proofs.Tests.{and-left, and-right, and-false}
 
 pub zeros-all : (l : List ℕ) → ((k : ℕ) → k < length l → getD l k 0 ≡ 0) → true ≡ zeros l
 unfolding zeros
 zeros-all [] h = refl
 zeros-all (x ∷ xs) h = simp (eq-eqb x 0 (h 0 (suc-le-suc zero-le))) (zeros-all xs (λ k lt. h (suc k) (suc-le-suc lt)))
 
-and-false : (a : Bool) → false ≡ (a && false)
-and-false true = refl
-and-false false = refl
-
 pub zeros-not : (l : List ℕ) (k : ℕ) → k < length l → (getD l k 0 ≡ 0 → ⊥) → false ≡ zeros l
 unfolding zeros
 zeros-not [] k h n = absurd (not-suc-le-zero h)
 zeros-not (x ∷ xs) zero h n = simp (ne-eqb x 0 n)
-zeros-not (x ∷ xs) (suc k) h n = and-false (eqb x 0) ∙ ap (λ (t : Bool). eqb x 0 && t) (zeros-not xs k (le-of-suc-le-suc h) n)
+zeros-not (x ∷ xs) (suc k) h n = sym (and-false (eqb x 0)) ∙ ap (λ (t : Bool). eqb x 0 && t) (zeros-not xs k (le-of-suc-le-suc h) n)
 
 -- nothing but zeros is so many zeros, and so many zeros are nothing else
 pub zeros-replicate : (l : List ℕ) → zeros l ≡ true → replicate (length l) 0 ≡ l

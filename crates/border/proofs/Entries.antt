@@ -11,14 +11,10 @@ use lib.ListN.{length, getD, length-take, length-drop}
 use borrow.Author.Tests.{le-leb, lt-leb, eq-eqb, ne-eqb, leb-true}
 use Rattle.parts.specs.Parts.{tilesBytes}
 use Rattle.bits.proofs.Planes.{bit-lt}
-use Rattle.bits.proofs.Tests.{and-left, and-right}
+use Rattle.bits.proofs.Tests.{and-left, and-right, and-false}
 use Rattle.colour.specs.Entry.{tileOf, paletteOf, flipX, flipY}
 use Rattle.border.specs.Tile.{tilePart, indexIn}
 use Rattle.border.specs.Border.{entryAt, draws, flipped, indexOf, inPalette, opaque, borderAt}
-
-and-false : (b : Bool) → b && false ≡ false
-and-false true = refl
-and-false false = refl
 
 -- the three tests, in the code's order
 pub far-tile : (w n : ℕ) → n ≡ tileOf w → 255 < n → draws w ≡ false

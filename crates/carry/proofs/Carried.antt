@@ -22,7 +22,7 @@ use Rattle.transfer.specs.declared.pending.Pending.the-variants.{In}
 use Rattle.transfer.specs.declared.pending.Transfer.{Transfer}
 use Rattle.layout.specs.Block.{load, save, isHeld, heldBytes}
 use Rattle.layout.proofs.Goods.{valid-good}
-use Rattle.layout.proofs.Saved.{clauses, save-load}
+use Rattle.layout.proofs.Saved.{clauses, save-load, long-part}
 use Rattle.rules.specs.Carry.{withPalettes, withMap, withMask, withoutMask, plainly, fixedly, sent, carriedGame, carriedSnes, carried}
 use Rattle.carry.specs.Carrying.{Valid, carriedBlock, changed, changedBlock, presetEnded}
 use Rattle.carry.proofs.Steps.{map-put, pads-put, mask-put, mode-put, palettes-left, palettes-put, pending-put}
@@ -47,9 +47,6 @@ copied n ys z l h k q = q ∙ over-all (length ys) ys z (k ∙ sym h)
 -- ---- plain commands
 
 module _ (b : List ℕ) (v : Valid b) where
-  part-long : (at n : ℕ) → at + n ≤ blockBytes → length (part at n b) ≡ n
-  part-long at n h = length-part at n b (omega (arith, v .long))
-
   pub nothing-done : b ≡ carriedBlock (plain nothing) b
   unfolding carriedBlock carried carriedGame carriedSnes plainly
   nothing-done = sym (save-load b (clauses b (v .tested)))
@@ -78,7 +75,7 @@ module _ (b : List ℕ) (v : Valid b) where
   pub frozen-put : (shot last : List ℕ) → shot ≡ part liveAt captureBytes b → last ≡ over frozenAt (length shot) shot (set (set b maskAt 1) frozenOnAt 1) → last ≡ carriedBlock (fixed freeze) b
   unfolding carriedBlock carried carriedGame carriedSnes fixedly sent isHeld heldBytes load
   frozen-put shot last p q =
-      let n : length (part liveAt captureBytes b) ≡ captureBytes = part-long liveAt captureBytes (lit≤ tt) in
+      let n : length (part liveAt captureBytes b) ≡ captureBytes = long-part b (v .long) liveAt captureBytes (lit≤ tt) in
       q
       ∙ ap (λ (l : List ℕ). over frozenAt (length l) l (set (set b maskAt 1) frozenOnAt 1)) p
       ∙ ap (λ (k : ℕ). over frozenAt k (part liveAt captureBytes b) (set (set b maskAt 1) frozenOnAt 1)) n
@@ -86,7 +83,7 @@ module _ (b : List ℕ) (v : Valid b) where
 
   pub frozen-long : (shot last : List ℕ) → shot ≡ part liveAt captureBytes b → last ≡ over frozenAt (length shot) shot (set (set b maskAt 1) frozenOnAt 1) → length last ≡ length b
   frozen-long shot last p q =
-      let n : length shot ≡ captureBytes = ap length p ∙ part-long liveAt captureBytes (lit≤ tt) in
+      let n : length shot ≡ captureBytes = ap length p ∙ long-part b (v .long) liveAt captureBytes (lit≤ tt) in
       let e : length (set (set b maskAt 1) frozenOnAt 1) ≡ length b = length-set (set b maskAt 1) frozenOnAt 1 ∙ length-set b maskAt 1 in
       ap length q ∙ length-over frozenAt (length shot) shot (set (set b maskAt 1) frozenOnAt 1) (omega (arith, v .long)) refl ∙ e
 
@@ -98,7 +95,7 @@ module _ (b : List ℕ) (v : Valid b) where
       → last ≡ changedBlock (λ s g. withPalettes (palette.palSet d (s .system)) g) b
   unfolding changedBlock
   palettes-taken d e ys last p q r =
-      let k : length ys ≡ palettesBytes = ap length q ∙ length-pal-set d (part systemAt systemBytes b) (part-long systemAt systemBytes (lit≤ tt)) in
+      let k : length ys ≡ palettesBytes = ap length q ∙ length-pal-set d (part systemAt systemBytes b) (long-part b (v .long) systemAt systemBytes (lit≤ tt)) in
       r
       ∙ ap (λ (n : ℕ). over palettesAt n ys e) k
       ∙ ap (over palettesAt palettesBytes ys) p
@@ -110,9 +107,9 @@ module _ (b : List ℕ) (v : Valid b) where
       → last ≡ over mapAt (length m₁) m₁ b → last ≡ changedBlock (λ s g. withMap (f (s .files) (g .map)) g) b
   unfolding changedBlock load
   file-put f l z m₀ m₁ last k p q r =
-      let n : length (part mapAt mapBytes b) ≡ mapBytes = part-long mapAt mapBytes (lit≤ tt) in
+      let n : length (part mapAt mapBytes b) ≡ mapBytes = long-part b (v .long) mapAt mapBytes (lit≤ tt) in
       let e : m₁ ≡ f (part filesAt filesBytes b) (part mapAt mapBytes b) = q ∙ ap (f (part filesAt filesBytes b)) (copied mapBytes (part mapAt mapBytes b) z m₀ n k p) in
-      let h : length m₁ ≡ mapBytes = ap length e ∙ l (part filesAt filesBytes b) (part mapAt mapBytes b) (part-long filesAt filesBytes (lit≤ tt)) n in
+      let h : length m₁ ≡ mapBytes = ap length e ∙ l (part filesAt filesBytes b) (part mapAt mapBytes b) (long-part b (v .long) filesAt filesBytes (lit≤ tt)) n in
       r
       ∙ ap (λ (i : ℕ). over mapAt i m₁ b) h
       ∙ map-put b v m₁ h

@@ -23,11 +23,10 @@ use Rattle.commands.proofs.Sizes.{length-attr-set, length-pal-set as length-pal
 use Rattle.layout.specs.Block.{load, save}
 use Rattle.layout.specs.Good.{Good, GoodGame, GoodSnes}
 use Rattle.layout.specs.Sgb.{Sgb, Game, Snes}
-use Rattle.layout.proofs.Goods.{valid-good, good-valid, good-back}
+use Rattle.layout.proofs.Goods.{valid-good, good-back, saved-valid}
 use Rattle.rules.specs.Carry.{withPalettes, withMap, withoutMask, fixedly, sent, carriedGame, carriedSnes, carried}
 use Rattle.rules.proofs.Commands.{palettes-good, map-good}
 use Rattle.carry.specs.Carrying.{Valid, carriedBlock, changed, changedBlock}
-use Rattle.carry.proofs.Steps.{held}
 
 -- a change that keeps the game's part good
 pub record Kept (f : Snes → Game → Game) : Type 0 where
@@ -43,8 +42,7 @@ changed-good f k b v =
 
 pub changed-valid : (f : Snes → Game → Game) → Kept f → (b : List ℕ) → Valid b → (e : List ℕ) → e ≡ changedBlock f b → Valid e
 unfolding changedBlock
-changed-valid f k b v e q =
-    subst⁻¹ (λ (l : List ℕ). Valid l) q (held (save (changed f (load b))) (good-valid (changed f (load b)) (changed-good f k b v)))
+changed-valid f k b v e q = saved-valid (changed f (load b)) (changed-good f k b v) e q
 
 changed-again : (f h : Snes → Game → Game) → Kept f → (b : List ℕ) → Valid b → changedBlock h (changedBlock f b) ≡ changedBlock (λ s g. h s (f s g)) b
 unfolding changedBlock

@@ -1,6 +1,5 @@
 -- What each worker leaves, told by parts (`Made`), is the block of the unit after its command: the parts of the one are the parts of the other.
 use mathlib.Core.Path.{_≡_, sym, ap, _∙_}
-use mathlib.Core.Bool.{true}
 use mathlib.Core.List.{List, _∷_}
 use mathlib.Core.Option.{Option}
 use Prim.Native.Nat.{ℕ}
@@ -13,16 +12,11 @@ use Rattle.transfer.specs.Pending.{countdownOf, kindOf}
 use Rattle.transfer.specs.declared.pending.Pending.{Pending}
 use Rattle.layout.specs.Block.{load, save, header, parts, isHeld, heldBytes}
 use Rattle.layout.specs.Good.{SizedIf}
-use Rattle.layout.specs.Valid.{valid}
 use Rattle.layout.specs.Sgb.{Game}
-use Rattle.layout.proofs.Saved.{clauses}
 use Rattle.layout.proofs.Fields.{held-length}
 use Rattle.layout.proofs.Made.{Made, made-of, made-put, made-set, made-get, made-save}
 use Rattle.rules.specs.Carry.{withPads, withPalettes, withMap, withMask, withPending, plainly, carriedGame, carriedSnes, carried}
 use Rattle.carry.specs.Carrying.{Valid, carriedBlock, changed, presetEnded}
-
-pub held : (b : List ℕ) → valid b ≡ true → Valid b
-held b v = record { long = clauses b v .long; tested = v }
 
 -- ---- the block with the unit changed in one place
 

@@ -20,7 +20,7 @@ use Rattle.receiver.proofs.Checks.{v3-says, v3-true}
 use Rattle.receiver.proofs.Words.{length-bytes}
 use Rattle.parts.specs.Parts.{blockBytes, maskAt, indexAt, padsAt, stageAt, presetOnAt, countdownAt, kindAt, frozenOnAt, packetAt, packetBytes, storeAt, storeBytes, presetAt, presetBytes, palettesAt, palettesBytes, mapAt, mapBytes, systemAt, systemBytes, filesAt, filesBytes, liveAt, captureBytes, frozenAt, tilesAt, tilesBytes, borderMapAt, borderMapBytes, borderPalettesAt, borderPalettesBytes, sizes, sum}
 use Rattle.layout.specs.Block.{byte, flag, isSet, isHeld, valueOf, load, save, parts}
-use Rattle.layout.specs.Valid.{v1, v2, v3, v4, v5, v6, maskAllows, validParts, valid}
+use Rattle.layout.specs.Valid.{v1, v2, v3, v4, v5, v6, maskAllows, validParts, valid, Valid}
 use Rattle.layout.specs.Sgb.{Sgb}
 use Rattle.layout.specs.Good.{Good, GoodPort, GoodGame, GoodSnes}
 use Rattle.layout.proofs.Cut.{get-part, length-flat}
@@ -38,7 +38,7 @@ module _ (b : List ℕ) (c : Clauses b) where
         receiver =
             v3-says (load b .port .rx) (load b .port .store)
             (and-right (areBytes (part packetAt packetBytes b)) _ (and-right (leb (byte stageAt b) 2) _ (c .three)));
-        store = long-part b c storeAt storeBytes (lit≤ tt);
+        store = long-part b (c .long) storeAt storeBytes (lit≤ tt);
       }
 
   game-good : GoodGame (load b .game)
@@ -52,10 +52,10 @@ module _ (b : List ℕ) (c : Clauses b) where
         allowed =
             ap (maskAllows (byte maskAt b)) (held-number (byte frozenOnAt b) (part frozenAt captureBytes b) (two b c .frozen))
             ∙ and-left (maskAllows (byte maskAt b) (byte frozenOnAt b)) _ (c .six);
-        preset = held-sized presetBytes (byte presetOnAt b) (part presetAt presetBytes b) (long-part b c presetAt presetBytes (lit≤ tt));
-        palettes = long-part b c palettesAt palettesBytes (lit≤ tt);
-        map = long-part b c mapAt mapBytes (lit≤ tt);
-        frozen = held-sized captureBytes (byte frozenOnAt b) (part frozenAt captureBytes b) (long-part b c frozenAt captureBytes (lit≤ tt));
+        preset = held-sized presetBytes (byte presetOnAt b) (part presetAt presetBytes b) (long-part b (c .long) presetAt presetBytes (lit≤ tt));
+        palettes = long-part b (c .long) palettesAt palettesBytes (lit≤ tt);
+        map = long-part b (c .long) mapAt mapBytes (lit≤ tt);
+        frozen = held-sized captureBytes (byte frozenOnAt b) (part frozenAt captureBytes b) (long-part b (c .long) frozenAt captureBytes (lit≤ tt));
       }
 
   snes-good : GoodSnes (load b .snes)
@@ -63,12 +63,12 @@ module _ (b : List ℕ) (c : Clauses b) where
       unfold load v4 in
       record {
         pending = pending-good (byte countdownAt b) (byte kindAt b) (c .four);
-        live = long-part b c liveAt captureBytes (lit≤ tt);
-        system = long-part b c systemAt systemBytes (lit≤ tt);
-        files = long-part b c filesAt filesBytes (lit≤ tt);
-        tiles = long-part b c tilesAt tilesBytes (lit≤ tt);
-        borderMap = long-part b c borderMapAt borderMapBytes (lit≤ tt);
-        borderPalettes = long-part b c borderPalettesAt borderPalettesBytes (lit≤ tt);
+        live = long-part b (c .long) liveAt captureBytes (lit≤ tt);
+        system = long-part b (c .long) systemAt systemBytes (lit≤ tt);
+        files = long-part b (c .long) filesAt filesBytes (lit≤ tt);
+        tiles = long-part b (c .long) tilesAt tilesBytes (lit≤ tt);
+        borderMap = long-part b (c .long) borderMapAt borderMapBytes (lit≤ tt);
+        borderPalettes = long-part b (c .long) borderPalettesAt borderPalettesBytes (lit≤ tt);
       }
 
 pub valid-good : (b : List ℕ) → valid b ≡ true → Good (load b)
@@ -182,3 +182,7 @@ module _ (u : Sgb) (g : Good u) where
       (and-true (v2 (save u)) _ two-kept
       (and-true (v3 (save u)) _ three-kept
       (and-true (v4 (save u)) _ four-kept (and-true (v5 (save u)) _ five-kept six-kept)))))
+
+-- so a block that is told as the one of a good unit is valid
+pub saved-valid : (u : Sgb) → Good u → (b : List ℕ) → b ≡ save u → Valid b
+saved-valid u g b e = record { long = ap length e ∙ length-save u g; tested = ap valid e ∙ good-valid u g }

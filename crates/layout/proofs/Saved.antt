@@ -76,6 +76,9 @@ flags b e =
 
 -- ---- a valid block
 
+pub long-part : (b : List ℕ) → length b ≡ blockBytes → (at n : ℕ) → at + n ≤ blockBytes → length (part at n b) ≡ n
+long-part b long at n h = length-part at n b (omega arith)
+
 module _ (b : List ℕ) (c : Clauses b) where
   pub two : Flags b
   two = flags b (c .two)
@@ -102,20 +105,17 @@ module _ (b : List ℕ) (c : Clauses b) where
       ∷ spare-at 0 (lit< tt) t ∷ spare-at 1 (lit< tt) t ∷ spare-at 2 (lit< tt) t ∷ [])
       ∙ ap (take 16) (heads-eq 16 0 b (omega (arith, c .long)))
 
-  pub long-part : (at n : ℕ) → at + n ≤ blockBytes → length (part at n b) ≡ n
-  long-part at n h = length-part at n b (omega (arith, c .long))
-
   packet-back : bytesOf packetBytes (valueOf (part packetAt packetBytes b)) ≡ part packetAt packetBytes b
   packet-back =
-      ap (λ (n : ℕ). bytesOf n (valueOf (part packetAt packetBytes b))) (sym (long-part packetAt packetBytes (lit≤ tt)))
+      ap (λ (n : ℕ). bytesOf n (valueOf (part packetAt packetBytes b))) (sym (long-part b (c .long) packetAt packetBytes (lit≤ tt)))
       ∙ bytes-of-value (part packetAt packetBytes b) packet-bytes
 
   preset-back : heldBytes presetBytes (held (byte presetOnAt b) (part presetAt presetBytes b)) ≡ part presetAt presetBytes b
-  preset-back = held-bytes presetBytes (byte presetOnAt b) (part presetAt presetBytes b) (long-part presetAt presetBytes (lit≤ tt)) (two .preset) (unfold v5 in c .five)
+  preset-back = held-bytes presetBytes (byte presetOnAt b) (part presetAt presetBytes b) (long-part b (c .long) presetAt presetBytes (lit≤ tt)) (two .preset) (unfold v5 in c .five)
 
   frozen-back : heldBytes captureBytes (held (byte frozenOnAt b) (part frozenAt captureBytes b)) ≡ part frozenAt captureBytes b
   frozen-back =
-      held-bytes captureBytes (byte frozenOnAt b) (part frozenAt captureBytes b) (long-part frozenAt captureBytes (lit≤ tt)) (two .frozen)
+      held-bytes captureBytes (byte frozenOnAt b) (part frozenAt captureBytes b) (long-part b (c .long) frozenAt captureBytes (lit≤ tt)) (two .frozen)
       (unfold v6 in and-right (maskAllows (byte maskAt b) (byte frozenOnAt b)) _ (c .six))
 
   pub save-load : save (load b) ≡ b

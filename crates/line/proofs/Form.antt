@@ -7,12 +7,11 @@ use mathlib.Core.List.{List, [], _∷_}
 use native.Mathlib.Omega.{arith}
 use borrow.Author.Tests.{le-leb, lt-leb, leb-true, leb-false, eq-eqb, ne-eqb, eqb-true, eqb-false}
 use lib.Dec.{leb, eqb}
-use lib.ListN.{length, getD, take, drop}
+use lib.ListN.{length, getD, drop}
 use Rattle.hex.specs.Hex.{nibble, bytesOf, present, spells, spelled}
-use Rattle.hex.proofs.Reading.{two, spells-one, spelled-some, length-spelled}
+use Rattle.hex.proofs.Reading.{two, spelled-some, length-spelled}
 use Rattle.parts.specs.Parts.{captureBytes}
-use Rattle.line.specs.Line.{lineDigits, Meaning, writes, screen, refused, byKind, byBytes, meaningOf}
-use Rattle.line.specs.Calls.{kindTold}
+use Rattle.line.specs.Line.{lineDigits, writes, screen, refused, byKind, byBytes, meaningOf}
 
 -- a line's first byte, of a line that spells bytes
 abbrev pub kindByte : List ℕ → ℕ

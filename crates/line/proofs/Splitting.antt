@@ -4,19 +4,18 @@ use mathlib.Core.Bool.{Bool, true, false, cond}
 use mathlib.Core.Path.{_≡_, refl, ap, sym, _∙_}
 use mathlib.Core.Option.{Option, none, some}
 use mathlib.Core.List.{List, [], _∷_, _++_, append-assoc}
-use native.Mathlib.Numerals.{add-one}
 use native.Mathlib.Omega.{arith}
 use borrow.Author.Tests.{le-leb, lt-leb, leb-true, leb-false, eqb-true}
 use lib.Dec.{leb, eqb}
-use lib.ListN.{length, take, drop, length-append, length-take, length-drop, take-append-drop, drop-of-length-le}
+use lib.ListN.{length, take, drop, length-append, length-take, length-drop, take-append-drop}
 use lib.Seq.{take-length, take-all, take-at, drop-drop, length-take-le}
 use Rattle.bits.specs.Over.{over}
 use Rattle.bits.proofs.Overs.{length-over}
 use Rattle.bytes.specs.Bytes.{indexOf, indexAfter}
 use Rattle.bytes.specs.Bytes.{slice as Bytes·slice}
-use Rattle.line.specs.Line.{lineDigits, Meaning, refused, meaningOf}
-use Rattle.line.specs.Lines.{mark, grown, markedFrom, meaningMarked}
-use Rattle.line.specs.Split.{heldAs, nothing, tooLong, upToLf, lfAt, tookHeld, tookLine, taken}
+use Rattle.line.specs.Line.{lineDigits, refused, meaningOf}
+use Rattle.line.specs.Lines.{grown, markedFrom, meaningMarked}
+use Rattle.line.specs.Split.{heldAs, tooLong, upToLf, lfAt, tookHeld, tookLine, taken}
 use Rattle.line.specs.declared.lines.Held.{Held}
 use Rattle.line.specs.declared.lines.Taken.{Taken}
 use Rattle.line.proofs.Marked.{Kept, NoLf, mark-short, mark-long, marked-more, marked-line}

@@ -1,21 +1,18 @@
 -- What `parse` answers and leaves, form by form (`answers-short`, ..); and what each answer means of the line (`parse-writes`, ..).
-use Prim.Native.Nat.{ℕ, _+_, _-_, _*_, _/_, _≤_, _<_}
-use mathlib.Core.Bool.{Bool, true, false, cond}
-use mathlib.Core.Path.{_≡_, refl, ap, sym, _∙_}
-use mathlib.Core.List.{List, _++_}
+use Prim.Native.Nat.{ℕ, _-_, _≤_, _<_}
+use mathlib.Core.Path.{_≡_, ap, sym, _∙_}
+use mathlib.Core.List.{List}
 use native.Mathlib.Omega.{arith}
 use borrow.Author.Tests.{le-leb, lt-leb}
-use lib.Dec.{leb}
 use lib.ListN.{length, take, drop, length-drop}
-use lib.Seq.{take-all, take-at, take-length}
+use lib.Seq.{take-all, take-at}
 use Rattle.bits.specs.Answer.{Answer, given}
 use Rattle.bits.specs.Answer.{refused as refusal}
 use Rattle.bits.specs.Over.{over}
-use Rattle.hex.specs.Hex.{spells, spelled}
+use Rattle.hex.specs.Hex.{spelled}
 use Rattle.parts.specs.Parts.{captureBytes}
 use Rattle.line.specs.Line.{Meaning, writes, screen, refused, meaningOf}
 use Rattle.line.specs.Calls.{Content, writesOf, oneScreen, lineTold, meaningTold, filled, lineAnswer, lineBytes, kindTold}
-use Rattle.line.specs.declared.Line.{Line}
 use Rattle.line.specs.declared.Line.the-variants as L
 use Rattle.line.proofs.Form.{Body, Read, isRefused, isWrites, isScreen, read}
 

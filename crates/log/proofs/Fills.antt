@@ -1,7 +1,7 @@
 -- A fill tells the next part of what is still to be told, and leaves the rest.
 use mathlib.Core.Path.{_≡_, refl, sym, ap, _∙_, subst⁻¹}
 use mathlib.Core.Bool.{Bool, true, false, cond, not, _&&_}
-use mathlib.Core.List.{List, [], _∷_, _++_, append-assoc}
+use mathlib.Core.List.{List, [], _++_, append-assoc}
 use Prim.Native.Nat.{ℕ, zero, suc, _+_, _-_, _≤_, _<_}
 use native.Mathlib.Omega.{arith}
 use borrow.Author.Tests.{ltb-true, ltb-false, leb-true, le-leb, lt-ltb}
@@ -11,7 +11,7 @@ use Rattle.bits.proofs.Tests.{either, and-left, and-right}
 use Rattle.layout.specs.Sgb.{Sgb}
 use Rattle.log.specs.Events.{Event}
 use Rattle.log.specs.Texts.{shown}
-use Rattle.log.specs.Steps.{Desk, Stepped, ranOn, playedTo, tookOn, stepped, eventsOn, goesOn, Filling, nextBy, next, fills, fill, left, toTell, toEnd, Fit}
+use Rattle.log.specs.Steps.{Desk, Stepped, ranOn, playedTo, stepped, eventsOn, goesOn, stepRoom, Filling, nextBy, next, fills, fill, left, toTell, toEnd, Fit}
 use Rattle.log.specs.declared.Reading.{Reading}
 use Rattle.log.proofs.Tells.{ran-tells, ran-ends}
 use Rattle.log.proofs.Takes.{took-tells, took-ends}
@@ -96,12 +96,12 @@ next-fit f chunk k h = let s = step-keeps (f .reading) (f .desk) chunk (f .at) k
 -- a fill that goes on has something left
 pub goes-left : (refused : Bool) (written : ℕ) (r : Reading) (at size room : ℕ) → goesOn refused written r at size room ≡ true → 0 < left r size at
 unfolding goesOn
-goes-left refused written r at size room e = ltb-true 0 (left r size at) (and-right (leb (written + 256) room) (ltb 0 (left r size at)) (and-right (not refused) (leb (written + 256) room && ltb 0 (left r size at)) e))
+goes-left refused written r at size room e = ltb-true 0 (left r size at) (and-right (leb (written + stepRoom) room) (ltb 0 (left r size at)) (and-right (not refused) (leb (written + stepRoom) room && ltb 0 (left r size at)) e))
 
 -- and room for the next text
-pub goes-room : (refused : Bool) (written : ℕ) (r : Reading) (at size room : ℕ) → goesOn refused written r at size room ≡ true → written + 256 ≤ room
+pub goes-room : (refused : Bool) (written : ℕ) (r : Reading) (at size room : ℕ) → goesOn refused written r at size room ≡ true → written + stepRoom ≤ room
 unfolding goesOn
-goes-room refused written r at size room e = leb-true (written + 256) room (and-left (leb (written + 256) room) (ltb 0 (left r size at)) (and-right (not refused) (leb (written + 256) room && ltb 0 (left r size at)) e))
+goes-room refused written r at size room e = leb-true (written + stepRoom) room (and-left (leb (written + stepRoom) room) (ltb 0 (left r size at)) (and-right (not refused) (leb (written + stepRoom) room && ltb 0 (left r size at)) e))
 
 fills-all : (n room : ℕ) (f : Filling) (chunk : List ℕ) → Fit (f .reading) (f .desk) → f .at ≤ length chunk → Fills chunk f (fills n room f chunk)
 unfolding fills
@@ -134,10 +134,10 @@ module _ (room : ℕ) (r : Reading) (d : Desk) (chunk : List ℕ) (at : ℕ) (k 
   abbrev f₀ : Filling
   f₀ = record { reading = r; at = at; refused = false; desk = d; events = [] }
 
-  goes : 0 < left r (length chunk) at → 256 ≤ room → goesOn false (length (shown [])) r at (length chunk) room ≡ true
+  goes : 0 < left r (length chunk) at → stepRoom ≤ room → goesOn false (length (shown [])) r at (length chunk) room ≡ true
   unfolding goesOn shown
   goes more big =
-      let a : leb (0 + 256) room ≡ true = le-leb (0 + 256) room (omega arith) in
+      let a : leb (0 + stepRoom) room ≡ true = le-leb (0 + stepRoom) room (omega arith) in
       let b : ltb 0 (left r (length chunk) at) ≡ true = lt-ltb 0 (left r (length chunk) at) more in
       rw (a, b)
 
@@ -145,7 +145,7 @@ module _ (room : ℕ) (r : Reading) (d : Desk) (chunk : List ℕ) (at : ℕ) (k 
   unfolding next nextBy
   next-less more = step-keeps r d chunk at k h .less more
 
-  fills-less : (n : ℕ) → 0 < left r (length chunk) at → 256 ≤ room → left (fills (suc n) room f₀ chunk .reading) (length chunk) (fills (suc n) room f₀ chunk .at) < left r (length chunk) at
+  fills-less : (n : ℕ) → 0 < left r (length chunk) at → stepRoom ≤ room → left (fills (suc n) room f₀ chunk .reading) (length chunk) (fills (suc n) room f₀ chunk .at) < left r (length chunk) at
   unfolding fills
   fills-less n more big =
       let w = next-fit f₀ chunk k h in
@@ -153,7 +153,7 @@ module _ (room : ℕ) (r : Reading) (d : Desk) (chunk : List ℕ) (at : ℕ) (k 
       subst⁻¹ (λ (t : Bool). left (cond t (fills n room (next f₀ chunk) chunk) f₀ .reading) (length chunk) (cond t (fills n room (next f₀ chunk) chunk) f₀ .at) < left r (length chunk) at) (goes more big)
       (omega (arith, l, next-less more))
 
-  pub fill-less : 0 < left r (length chunk) at → 256 ≤ room → left (fill room r d chunk at .reading) (length chunk) (fill room r d chunk at .at) < left r (length chunk) at
+  pub fill-less : 0 < left r (length chunk) at → stepRoom ≤ room → left (fill room r d chunk at .reading) (length chunk) (fill room r d chunk at .at) < left r (length chunk) at
   unfolding fill
   fill-less more big = by (left r (length chunk) at) refl
     where

@@ -1,28 +1,25 @@
 -- A step keeps what steps require, goes on in the chunk, and leaves less to do.
-use mathlib.Core.Path.{_≡_, refl, sym, ap, _∙_, subst}
-use mathlib.Core.Bool.{Bool, true, false, cond}
-use mathlib.Core.List.{List, [], _∷_, _++_}
+use mathlib.Core.Path.{_≡_, refl, sym, _∙_, subst}
+use mathlib.Core.Bool.{Bool, true, false}
+use mathlib.Core.List.{List, [], _∷_}
 use mathlib.Core.Option.{Option, none, some}
-use Prim.Native.Nat.{ℕ, zero, suc, _+_, _-_, _*_, _≤_, _<_}
+use Prim.Native.Nat.{ℕ, suc, _+_, _-_, _≤_, _<_}
 use native.Mathlib.Omega.{arith}
-use borrow.Author.Tests.{ltb-true, ltb-false, leb-true}
-use lib.Dec.{ltb, leb, eqb}
-use lib.ListN.{length, take, drop, length-drop, length-take, length-append}
+use borrow.Author.Tests.{ltb-true, ltb-false}
+use lib.Dec.{ltb}
+use lib.ListN.{length, drop, length-drop, length-take}
 use Rattle.parts.specs.Parts.{captureBytes, storeBytes}
-use Rattle.bits.specs.Over.{over}
 use Rattle.bits.proofs.Overs.{length-over}
 use Rattle.bits.proofs.Tests.{either}
 use Rattle.layout.specs.Block.{load, save}
-use Rattle.layout.specs.Good.{Good}
 use Rattle.layout.specs.Sgb.{Sgb}
-use Rattle.layout.specs.Valid.{Valid}
-use Rattle.layout.proofs.Goods.{valid-good, good-valid, length-save}
+use Rattle.layout.proofs.Goods.{valid-good, saved-valid}
 use Rattle.rules.specs.Write.{written, answer}
 use Rattle.rules.specs.Screen.{screened}
-use Rattle.rules.proofs.Keeps.{WholeIf, good-screened}
-use Rattle.port.specs.Bytes.{handed}
+use Rattle.rules.proofs.Keeps.{good-screened}
+use Rattle.unit.proofs.Writes.{length-handed}
 use Rattle.play.specs.Play.{Played, stop, played}
-use Rattle.line.specs.Line.{Meaning, writes, screen, refused, lineDigits}
+use Rattle.line.specs.Line.{Meaning, writes, screen, refused}
 use Rattle.line.specs.Lines.{meaningMarked}
 use Rattle.line.specs.Split.{heldAs, taken, tookHeld, tookLine, upToLf, lfAt}
 use Rattle.line.specs.Calls.{filled}
@@ -30,12 +27,7 @@ use Rattle.line.proofs.Splitting.{lf-within, took-fits, length-took}
 use Rattle.log.specs.Steps.{Desk, Stepped, pending, playedTo, ranOn, endedAs, ended, took, tookOn, stepped, holding, withLine, left, Fit}
 use Rattle.log.specs.declared.Reading.{Reading}
 use Rattle.log.proofs.Tells.{Kept, kept-played}
-use Rattle.log.proofs.Takes.{Fits, fits-marked, ended-at}
-
--- ---- a valid block
-
-pub good-saved : (u : Sgb) → Good u → Valid (save u)
-good-saved u g = record { long = length-save u g; tested = good-valid u g }
+use Rattle.log.proofs.Takes.{Fits, fits-marked}
 
 -- ---- what is played
 
@@ -56,11 +48,6 @@ at-least u (v ∷ vs) h = go (answer u v)
     go : (o : Option (List ℕ)) → 0 < stop o (written u v) (played (written u v) vs) .at
     go none = unfold stop in omega arith
     go (some c) = unfold stop in omega arith
-
-pub length-handed : (o : Option (List ℕ)) (command : List ℕ) → WholeIf o → storeBytes ≤ length command → length (handed o command) ≡ length command
-unfolding handed
-length-handed none command w h = refl
-length-handed (some c) command w h = simp (length-append, length-drop) (omega (arith, w .most))
 
 pub pending-long : (r : Reading) (d : Desk) → Fit r d → length (pending r (d .bytes)) ≡ r .upto - r .from
 unfolding pending
@@ -87,7 +74,7 @@ ran-keeps r d size at f h more =
     record {
       fit =
           record {
-            valid = good-saved (p .unit) (k .good);
+            valid = saved-valid (p .unit) (k .good) (save (p .unit)) refl;
             line-long = f .line-long;
             bytes-long = f .bytes-long;
             command-long = subst (λ (m : ℕ). storeBytes ≤ m) (sym (length-handed (p .told) (d .command) (k .whole) (f .command-long))) (f .command-long);
@@ -136,7 +123,7 @@ ended-keeps (writes ws) r d at g f = record {
 ended-keeps (screen x) r d at g f = record {
   fit =
       record {
-        valid = good-saved (screened (load (d .block)) x) (good-screened (load (d .block)) x g (valid-good (d .block) (f .valid .tested)));
+        valid = saved-valid (screened (load (d .block)) x) (good-screened (load (d .block)) x g (valid-good (d .block) (f .valid .tested))) (save (screened (load (d .block)) x)) refl;
         line-long = f .line-long;
         bytes-long = filled-long (screen x) (d .bytes) g (f .bytes-long);
         command-long = f .command-long;

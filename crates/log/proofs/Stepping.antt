@@ -1,5 +1,5 @@
 -- What `take_step` leaves is the step, by its cases: writes are played, a line has ended, or the chunk is used up.
-use mathlib.Core.Path.{_≡_, refl, sym, ap, ap₂, _∙_}
+use mathlib.Core.Path.{_≡_, refl, ap, ap₂, _∙_}
 use mathlib.Core.Bool.{Bool, true, false}
 use mathlib.Core.List.{List, []}
 use mathlib.Core.Option.{Option, none, some}
@@ -7,7 +7,7 @@ use Prim.Native.Nat.{ℕ, zero, suc, _+_, _/_, _≤_, _<_}
 use native.Mathlib.Omega.{arith}
 use borrow.Author.Tests.{lt-ltb, le-ltb}
 use lib.Dec.{ltb}
-use lib.ListN.{length, take, drop}
+use lib.ListN.{length, drop}
 use Rattle.line.specs.Line.{lineDigits, Meaning, writes, screen, refused}
 use Rattle.line.specs.Lines.{meaningMarked}
 use Rattle.line.specs.Split.{heldAs, taken, tookLine, upToLf}

@@ -1,9 +1,9 @@
 -- A step that takes more of the chunk tells the line that ended with it.
-use mathlib.Core.Path.{_≡_, refl, sym, ap, ap₂, _∙_, subst}
-use mathlib.Core.Bool.{Bool, true, false, cond}
-use mathlib.Core.List.{List, [], _∷_, _++_, map, append-assoc, append-nil}
+use mathlib.Core.Path.{_≡_, refl, sym, ap, _∙_}
+use mathlib.Core.Bool.{Bool, true, false}
+use mathlib.Core.List.{List, [], _∷_, _++_, map}
 use mathlib.Core.Option.{Option, none, some}
-use Prim.Native.Nat.{ℕ, zero, suc, _+_, _-_, _*_, _≤_, _<_}
+use Prim.Native.Nat.{ℕ, suc, _+_, _-_, _≤_, _<_}
 use native.Mathlib.Omega.{arith}
 use borrow.Author.Tests.{ltb-true, ltb-false, leb-true, eqb-true}
 use lib.Dec.{ltb, leb, eqb}
@@ -13,19 +13,18 @@ use lib.ListN.{length, take, drop, drop-of-length-le}
 use lib.Seq.{take-at}
 use Rattle.bits.specs.Over.{over}
 use Rattle.layout.specs.Block.{load, save}
-use Rattle.layout.specs.Good.{Good}
 use Rattle.layout.specs.Sgb.{Sgb}
 use Rattle.layout.specs.Valid.{Valid}
 use Rattle.layout.proofs.Goods.{valid-good, good-back}
 use Rattle.rules.specs.Screen.{screened}
 use Rattle.rules.proofs.Keeps.{good-screened}
 use Rattle.parts.specs.Parts.{captureBytes}
-use Rattle.line.specs.Line.{Meaning, writes, screen, refused, lineDigits, byKind, byBytes, meaningOf}
+use Rattle.line.specs.Line.{Meaning, writes, screen, refused, byKind, byBytes, meaningOf}
 use Rattle.line.specs.Lines.{markedFrom, meaningMarked, grown}
-use Rattle.line.specs.Split.{heldAs, nothing, taken, tookHeld, tookLine, upToLf, lfAt}
+use Rattle.line.specs.Split.{heldAs, taken, tookHeld, tookLine, upToLf, lfAt}
 use Rattle.line.specs.Calls.{filled}
 use Rattle.line.proofs.Splitting.{lines-lf, lines-end, kept-held, took-grown}
-use Rattle.log.specs.Events.{Event, completed, refusal, told, writeEvents, afterWrites, lineEvents, afterLine, eventsFrom, afterLines}
+use Rattle.log.specs.Events.{Event, writeEvents, afterWrites, lineEvents, afterLine, eventsFrom, afterLines}
 use Rattle.log.specs.Steps.{Desk, Stepped, pending, endedAs, ended, took, tookOn, holding, withLine, toldBy, eventsOn, toTell, toEnd, Fit}
 use Rattle.log.specs.declared.Reading.{Reading}
 use Rattle.log.specs.declared.Told.the-variants.{Nothing}

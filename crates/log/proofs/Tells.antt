@@ -1,44 +1,39 @@
 -- Each step tells the next part of what is still to be told, and leaves the rest; so a fill does.
-use mathlib.Core.Path.{_≡_, refl, sym, ap, ap₂, _∙_, subst}
-use mathlib.Core.Bool.{Bool, true, false, cond}
-use mathlib.Core.List.{List, [], _∷_, _++_, map, append-assoc, append-nil}
+use mathlib.Core.Path.{_≡_, refl, sym, ap, ap₂, _∙_}
+use mathlib.Core.List.{List, [], _∷_, _++_, map, append-assoc}
 use mathlib.Core.Option.{Option, none, some}
-use Prim.Native.Nat.{ℕ, zero, suc, _+_, _-_, _*_, _/_, _≤_, _<_}
+use Prim.Native.Nat.{ℕ, zero, suc, _+_, _-_, _*_, _/_}
 use native.Mathlib.Omega.{arith}
-use native.Mathlib.Nat.{sub-zero, zero-sub, suc-sub-suc}
-use lib.ListN.{length, take, drop, length-take, length-drop, length-append}
-use lib.Seq.{drop-drop, take-nil, take-at}
-use Rattle.layout.specs.Block.{load, save}
+use lib.ListN.{length, take, drop}
+use lib.Seq.{drop-drop, take-at}
+use Rattle.bits.proofs.Overs.{drop-take}
+use Rattle.layout.specs.Block.{load}
 use Rattle.layout.specs.Good.{Good}
 use Rattle.layout.specs.Sgb.{Sgb}
-use Rattle.layout.specs.Valid.{Valid}
-use Rattle.layout.proofs.Goods.{valid-good, good-back, good-valid, length-save}
+use Rattle.layout.proofs.Goods.{valid-good, good-back}
 use Rattle.rules.specs.Write.{written, answer}
-use Rattle.rules.specs.Screen.{screened}
-use Rattle.rules.proofs.Keeps.{WholeIf, good-written, answered-whole, good-screened}
+use Rattle.rules.proofs.Keeps.{WholeIf, good-written, answered-whole}
 use Rattle.port.specs.Bytes.{handed, packetsIn}
 use Rattle.play.specs.Play.{Played, stop, played}
-use Rattle.parts.specs.Parts.{captureBytes}
-use Rattle.line.specs.Line.{Meaning, writes, screen, refused, lineDigits}
 use Rattle.line.specs.Lines.{markedFrom, meaningMarked}
 use Rattle.line.specs.Split.{heldAs}
-use Rattle.log.specs.Events.{Event, completed, refusal, told, writeEvents, afterWrites, lineEvents, afterLine, eventsFrom, afterLines}
-use Rattle.log.specs.Steps.{Desk, Stepped, pending, toldOf, playedTo, ranOn, toldBy, eventsOn, toTell, toEnd, Fit}
+use Rattle.log.specs.Events.{Event, completed, answerEvents, writeEvents, afterWrites, eventsFrom, afterLines}
+use Rattle.log.specs.Steps.{Desk, pending, toldOf, playedTo, ranOn, toldBy, eventsOn, toTell, toEnd, Fit}
 use Rattle.log.specs.declared.Reading.{Reading}
 
 -- ---- writes that are played
 
-run-tells : (u : Sgb) (ws : List ℕ) → writeEvents u ws ≡ told (played u ws .told) ++ writeEvents (played u ws .unit) (drop (played u ws .at) ws)
-unfolding writeEvents played told
+run-tells : (u : Sgb) (ws : List ℕ) → writeEvents u ws ≡ answerEvents (played u ws .told) ++ writeEvents (played u ws .unit) (drop (played u ws .at) ws)
+unfolding writeEvents played answerEvents
 run-tells u [] = refl
 run-tells u (v ∷ vs) = go (answer u v) (run-tells (written u v) vs)
   where
     p : Played
     p = played (written u v) vs
 
-    go : (o : Option (List ℕ)) → writeEvents (written u v) vs ≡ told (p .told) ++ writeEvents (p .unit) (drop (p .at) vs)
-        → told o ++ writeEvents (written u v) vs
-        ≡ told (stop o (written u v) p .told) ++ writeEvents (stop o (written u v) p .unit) (drop (stop o (written u v) p .at) (v ∷ vs))
+    go : (o : Option (List ℕ)) → writeEvents (written u v) vs ≡ answerEvents (p .told) ++ writeEvents (p .unit) (drop (p .at) vs)
+        → answerEvents o ++ writeEvents (written u v) vs
+        ≡ answerEvents (stop o (written u v) p .told) ++ writeEvents (stop o (written u v) p .unit) (drop (stop o (written u v) p .at) (v ∷ vs))
     go none e = unfold stop in e
     go (some c) e = unfold stop in refl
 
@@ -71,8 +66,8 @@ kept-played u [] g = record { good = g; whole = tt }
 kept-played u (v ∷ vs) g = kept-stop (answer u v) (written u v) (played (written u v) vs) (answered-whole (u .port) v (g .port)) (good-written u v g) (kept-played (written u v) vs (good-written u v g))
 
 -- it stands in the buffer
-told-buffer : (o : Option (List ℕ)) (r : Reading) (command : List ℕ) → WholeIf o → toldBy (toldOf (packetsIn o)) r (handed o command) ≡ told o
-unfolding told handed packetsIn
+told-buffer : (o : Option (List ℕ)) (r : Reading) (command : List ℕ) → WholeIf o → toldBy (toldOf (packetsIn o)) r (handed o command) ≡ answerEvents o
+unfolding answerEvents handed packetsIn
 told-buffer none r command w = unfold toldOf toldBy in refl
 told-buffer (some c) r command w = go (length c / 16) refl
   where
@@ -83,12 +78,6 @@ told-buffer (some c) r command w = go (length c / 16) refl
         ap (λ (l : List ℕ). completed l ∷ []) (take-at c (drop (length c) command) (16 * suc n) (omega (arith, w .packets)))
 
 -- ---- the part of a buffer that is left
-
-drop-take : (n a : ℕ) (l : List ℕ) → drop n (take a l) ≡ take (a - n) (drop n l)
-drop-take zero a l = rw (sub-zero a)
-drop-take (suc n) zero l = rw (zero-sub (suc n))
-drop-take (suc n) (suc a) [] = sym (take-nil (suc a - suc n))
-drop-take (suc n) (suc a) (x ∷ l) = rw (suc-sub-suc) (drop-take n a l)
 
 part-left : (from upto n : ℕ) (b : List ℕ) → drop n (take (upto - from) (drop from b)) ≡ take (upto - (from + n)) (drop (from + n) b)
 part-left from upto n b =
@@ -111,10 +100,10 @@ module _ (r : Reading) (d : Desk) (at : ℕ) (f : Fit r d) where
       let ws′ : List ℕ = take (r .upto - (r .from + p .at)) (drop (r .from + p .at) (d .bytes)) in
       let e : drop (p .at) ws ≡ ws′ = part-left (r .from) (r .upto) (p .at) (d .bytes) in
       let more : Sgb → List Event = λ u. eventsFrom u (r .number) (map meaningMarked (markedFrom (heldAs (r .held) (d .line)) rest)) in
-      let a : writeEvents (load (d .block)) ws ≡ told (p .told) ++ writeEvents (p .unit) ws′ = run-tells (load (d .block)) ws ∙ ap (λ (l : List ℕ). told (p .told) ++ writeEvents (p .unit) l) e in
+      let a : writeEvents (load (d .block)) ws ≡ answerEvents (p .told) ++ writeEvents (p .unit) ws′ = run-tells (load (d .block)) ws ∙ ap (λ (l : List ℕ). answerEvents (p .told) ++ writeEvents (p .unit) l) e in
       let b : afterWrites (load (d .block)) ws ≡ afterWrites (p .unit) ws′ = run-ends (load (d .block)) ws ∙ ap (afterWrites (p .unit)) e in
       ap₂ (λ (x : List Event) (y : Sgb). x ++ more y) a b
-      ∙ append-assoc (told (p .told)) (writeEvents (p .unit) ws′) (more (afterWrites (p .unit) ws′))
+      ∙ append-assoc (answerEvents (p .told)) (writeEvents (p .unit) ws′) (more (afterWrites (p .unit) ws′))
       ∙ ap₂ (λ (x : List Event) (y : Sgb). x ++ (writeEvents y ws′ ++ more (afterWrites y ws′))) (sym (told-buffer (p .told) (ranOn r d at .reading) (d .command) (k .whole))) (sym (good-back (p .unit) (k .good)))
 
   pub ran-ends : (rest : List ℕ) → toEnd r d rest ≡ toEnd (ranOn r d at .reading) (ranOn r d at .desk) rest

@@ -1,7 +1,7 @@
 -- The turns of `fill`: as many steps are left as there is to do, and the text so far is at the front of the output.
-use mathlib.Core.Path.{_≡_, refl, sym, ap, ap₂, _∙_, subst, subst⁻¹}
+use mathlib.Core.Path.{_≡_, refl, sym, ap, ap₂, _∙_, subst⁻¹}
 use mathlib.Core.Bool.{Bool, true, false, cond}
-use mathlib.Core.List.{List, [], _∷_, _++_, append-assoc, append-nil}
+use mathlib.Core.List.{List, [], _∷_, _++_, append-assoc}
 use Prim.Native.Nat.{ℕ, zero, suc, _+_, _≤_, _<_}
 use native.Mathlib.Nat.{zero-add}
 use native.Mathlib.Omega.{arith}
@@ -10,7 +10,7 @@ use Rattle.bits.specs.Over.{over}
 use Rattle.bits.proofs.Overs.{over-over}
 use Rattle.log.specs.Events.{Event}
 use Rattle.log.specs.Texts.{shownOne, shown}
-use Rattle.log.specs.Steps.{Desk, Stepped, stepped, eventsOn, isRefused, left, Filling, goesOn, filledBy, nextBy, next, Said, fills, fill, filledTo, Full, Fit}
+use Rattle.log.specs.Steps.{Desk, Stepped, stepped, eventsOn, left, Filling, goesOn, filledBy, nextBy, next, Said, fills, fill, filledTo, Full, Fit}
 use Rattle.log.specs.declared.Filled.{Filled}
 use Rattle.log.specs.declared.Reading.{Reading}
 use Rattle.log.proofs.Keeps.{Step·Keeps, step-keeps}

@@ -1,24 +1,20 @@
 -- The whole: where a reading begins, all of a log is to be told; where it ends, nothing is. So fills, one after the other over the chunks of
 -- an input, tell what the log tells, however it is cut.
-use mathlib.Core.Path.{_≡_, refl, sym, ap, ap₂, _∙_}
-use mathlib.Core.Bool.{Bool, true, false, cond}
-use mathlib.Core.List.{List, [], _∷_, _++_, map, append-assoc, append-nil}
-use mathlib.Core.Option.{Option, none, some}
-use Prim.Native.Nat.{ℕ, zero, suc, _+_, _-_, _*_, _≤_, _<_}
-use native.Mathlib.Omega.{arith}
-use borrow.Author.Tests.{ltb-true, ltb-false, lt-ltb, le-ltb}
-use lib.Dec.{ltb}
-use lib.ListN.{length, take, drop, length-take, drop-of-length-le}
-use Rattle.layout.specs.Block.{load, save}
+use mathlib.Core.Path.{_≡_, ap, ap₂, _∙_}
+use mathlib.Core.Bool.{true}
+use mathlib.Core.List.{List, []}
+use mathlib.Core.Option.{some}
+use Prim.Native.Nat.{ℕ, _-_, _≤_}
+use Rattle.layout.specs.Block.{load}
 use Rattle.layout.specs.Fresh.{fresh, postBoot}
 use Rattle.layout.specs.Sgb.{Sgb}
 use Rattle.layout.proofs.Goods.{good-back}
 use Rattle.layout.proofs.Freshes.{fresh-good}
-use Rattle.line.specs.Line.{lineDigits, Meaning, meaningOf}
-use Rattle.line.specs.Lines.{markedFrom, meaningMarked, lastMarked, linesOf}
-use Rattle.line.specs.Split.{heldAs, nothing}
-use Rattle.log.specs.Events.{Event, writeEvents, afterWrites, eventsFrom, afterLines, meanings, eventsOf, unitAfter}
-use Rattle.log.specs.Steps.{Desk, begun, pending, left, lastLf, toTell, toEnd, Fit, Filling, fill}
+use Rattle.line.specs.Line.{Meaning}
+use Rattle.line.specs.Lines.{markedFrom, lastMarked}
+use Rattle.line.specs.Split.{heldAs}
+use Rattle.log.specs.Events.{writeEvents, afterWrites, eventsFrom, afterLines, meanings, eventsOf, unitAfter}
+use Rattle.log.specs.Steps.{Desk, begun, pending, toTell, toEnd}
 use Rattle.log.specs.declared.Reading.{Reading}
 use Rattle.line.proofs.Marked.{marked-meanings}
 use Rattle.log.proofs.Takes.{no-pending}

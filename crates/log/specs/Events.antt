@@ -19,13 +19,13 @@ pub data Event : Type 0 where
 -- ---- a line
 
 -- the commands that writes complete, and the unit after them
-unfoldable pub told : Option (List ℕ) → List Event
-told none = []
-told (some c) = completed c ∷ []
+unfoldable pub answerEvents : Option (List ℕ) → List Event
+answerEvents none = []
+answerEvents (some c) = completed c ∷ []
 
 unfoldable pub writeEvents : Sgb → List ℕ → List Event
 writeEvents u [] = []
-writeEvents u (v ∷ vs) = told (answer u v) ++ writeEvents (written u v) vs
+writeEvents u (v ∷ vs) = answerEvents (answer u v) ++ writeEvents (written u v) vs
 
 unfoldable pub afterWrites : Sgb → List ℕ → Sgb
 afterWrites u [] = u

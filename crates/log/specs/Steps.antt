@@ -203,6 +203,10 @@ lastLf r = cond (r .held .long) (10 ∷ []) (cond (ltb 0 (r .held .size)) (10 �
 
 -- ---- what the steps require, and keep
 
+-- a line's number and the lengths stay below the greatest number of 64 bits
+abbrev pub most64 : ℕ
+most64 = 18446744073709551615
+
 pub record Fit (r : Reading) (d : Desk) : Type 0 where
   pub valid : Valid (d .block)
   pub line-long : length (d .line) ≡ lineDigits

@@ -10,7 +10,7 @@ ghost use Rattle.parts.specs.Parts.{captureBytes, storeBytes};
 ghost use Rattle.layout.specs.Valid.{Valid};
 ghost use Rattle.text.specs.Text.{hexLine, rowLine};
 ghost use Rattle.line.specs.Line.{lineDigits};
-ghost use Rattle.log.specs.Steps.{begun, left, fill, desk, toldOf, ranOn, answerOf, ended, stepped, Fit, goesOn, stepRoom, ToldFits, Said, Full, isRefused, toldBy, lastLf, nextLine};
+ghost use Rattle.log.specs.Steps.{begun, left, fill, desk, toldOf, ranOn, answerOf, ended, stepped, Fit, goesOn, stepRoom, ToldFits, Said, Full, isRefused, toldBy, lastLf, nextLine, most64};
 ghost use Rattle.layout.specs.Block.{load};
 ghost use Rattle.picture.specs.Picture.{rowOf};
 ghost use Rattle.view.specs.Drawn.{partsOf};
@@ -175,7 +175,7 @@ pub fn last_lf(reading: Reading) -> usize
 
 // The reading behind a line that has ended, with n writes to play.
 fn behind(reading: Reading, at: usize, n: usize, told: Told) -> Step
-    requires { ⌜ reading .number < 18446744073709551615 ⌝ }
+    requires { ⌜ reading .number < most64 ⌝ }
     ensures { λ r. ⌜ r ≡ record { reading = nextLine reading n; at = at; told = told } ⌝ }
 {
     Step {
@@ -196,7 +196,7 @@ fn behind(reading: Reading, at: usize, n: usize, told: Told) -> Step
 // The line that is held has ended.
 fn end_line(reading: Reading, block: &mut [u8], line: &[u8], bytes: &mut [u8], at: usize) -> Step
     requires { ⌜ Valid (now block) × ((length (now line) ≡ lineDigits) × (length (now bytes) ≡ captureBytes)) ⌝ }
-    requires { ⌜ (reading .held .size ≤ lineDigits) × (reading .number < 18446744073709551615) ⌝ }
+    requires { ⌜ (reading .held .size ≤ lineDigits) × (reading .number < most64) ⌝ }
     ensures { λ r. ⌜ r ≡ answerOf (ended reading (desk (now (block .entry)) (now (line .entry)) (now (bytes .entry)) []) at) ⌝ }
     ensures { λ _. ⌜ now (block .exit) ≡ ended reading (desk (now (block .entry)) (now (line .entry)) (now (bytes .entry)) []) at .desk .block ⌝ }
     ensures { λ _. ⌜ now (bytes .exit) ≡ ended reading (desk (now (block .entry)) (now (line .entry)) (now (bytes .entry)) []) at .desk .bytes ⌝ }
@@ -218,7 +218,7 @@ fn end_line(reading: Reading, block: &mut [u8], line: &[u8], bytes: &mut [u8], a
 }
 
 // One step: the decoded writes up to the next command, or the chunk up to the next line's end.
-pub fn take_step(
+fn take_step(
     reading: Reading,
     block: &mut [u8],
     line: &mut [u8],
@@ -228,7 +228,7 @@ pub fn take_step(
     at: usize,
 ) -> Step
     requires { ⌜ Fit reading (desk (now block) (now line) (now bytes) (now command)) ⌝ }
-    requires { ⌜ (reading .number < 18446744073709551615) × ((at ≤ length (now chunk)) × (length (now chunk) < 18446744073709551615)) ⌝ }
+    requires { ⌜ (reading .number < most64) × ((at ≤ length (now chunk)) × (length (now chunk) < most64)) ⌝ }
     ensures { λ r. ⌜ r ≡ answerOf (stepped reading (desk (now (block .entry)) (now (line .entry)) (now (bytes .entry)) (now (command .entry))) (now (chunk .entry)) at) ⌝ }
     ensures { λ _. ⌜ now (block .exit) ≡ stepped reading (desk (now (block .entry)) (now (line .entry)) (now (bytes .entry)) (now (command .entry))) (now (chunk .entry)) at .desk .block ⌝ }
     ensures { λ _. ⌜ now (line .exit) ≡ stepped reading (desk (now (block .entry)) (now (line .entry)) (now (bytes .entry)) (now (command .entry))) (now (chunk .entry)) at .desk .line ⌝ }
@@ -268,8 +268,8 @@ fn say(
     out: &mut [u8],
 ) -> Filled
     requires { ⌜ Fit («so_far» .reading) (desk (now block) (now line) (now bytes) (now command)) ⌝ }
-    requires { ⌜ («so_far» .reading .number < 18446744073709551615) × ((«so_far» .at ≤ length (now chunk)) × (length (now chunk) < 18446744073709551615)) ⌝ }
-    requires { ⌜ («so_far» .size + stepRoom ≤ length (now out)) × (length (now out) < 18446744073709551615) ⌝ }
+    requires { ⌜ («so_far» .reading .number < most64) × ((«so_far» .at ≤ length (now chunk)) × (length (now chunk) < most64)) ⌝ }
+    requires { ⌜ («so_far» .size + stepRoom ≤ length (now out)) × (length (now out) < most64) ⌝ }
     ensures { λ r. ⌜ Said «so_far» (desk (now (block .entry)) (now (line .entry)) (now (bytes .entry)) (now (command .entry))) (now (chunk .entry)) (now (out .entry)) r (desk (now (block .exit)) (now (line .exit)) (now (bytes .exit)) (now (command .exit))) (now (out .exit)) ⌝ }
 {
     let reading = so_far.reading;
@@ -308,8 +308,8 @@ pub fn fill(
     out: &mut [u8],
 ) -> Filled
     requires { ⌜ Fit start (desk (now block) (now line) (now bytes) (now command)) ⌝ }
-    requires { ⌜ (start .number + length (now chunk) ≤ 18446744073709551614 + from) × ((from ≤ length (now chunk)) × (length (now chunk) < 18446744073709551615)) ⌝ }
-    requires { ⌜ length (now out) < 18446744073709551615 ⌝ }
+    requires { ⌜ (start .number + length (now chunk) < most64 + from) × ((from ≤ length (now chunk)) × (length (now chunk) < most64)) ⌝ }
+    requires { ⌜ length (now out) < most64 ⌝ }
     ensures { λ r. ⌜ Full start (desk (now (block .entry)) (now (line .entry)) (now (bytes .entry)) (now (command .entry))) (now (chunk .entry)) from (now (out .entry)) r (desk (now (block .exit)) (now (line .exit)) (now (bytes .exit)) (now (command .exit))) (now (out .exit)) ⌝ }
 {
     let mut f = Filled {

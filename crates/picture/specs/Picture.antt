@@ -4,7 +4,7 @@
 use Prim.Native.Nat.{ℕ, _+_, _-_, _*_, _/_, _%_}
 use mathlib.Core.Bool.{Bool, cond, _&&_}
 use mathlib.Core.List.{List}
-use mathlib.Core.Option.{Option, Option·getD}
+use mathlib.Core.Option.{Option·getD}
 use lib.Dec.{ltb, leb}
 use Rattle.bits.specs.Tab.{tab}
 use Rattle.screen.specs.Colours.{backdropOf, screenPixel}

@@ -1,43 +1,40 @@
 -- What is played on a good unit leaves a good one, also between the run and its command; and what the code has at hand is the unit's.
 use mathlib.Core.Path.{_≡_, refl, sym, ap, _∙_, subst, subst⁻¹}
-use mathlib.Core.Bool.{true}
-use mathlib.Core.List.{List, [], _∷_, _++_}
-use mathlib.Core.Option.{Option, none, some}
-use Prim.Native.Nat.{ℕ, zero, suc, _*_, _/_, _<_, _≤_}
+use mathlib.Core.List.{List, [], _∷_}
+use Prim.Native.Nat.{ℕ, zero, suc, _*_, _<_, _≤_}
 use native.Mathlib.Omega.{arith}
 use lib.Bits.{and-le-r}
-use lib.Dec.{lit<}
-use lib.ListN.{length, take, drop, replicate, getD, length-take, length-replicate}
-use lib.Seq.{take-at}
+use lib.ListN.{length, take, getD, length-replicate}
 use Rattle.parts.specs.Parts.{blockBytes, padsAt, storeAt, storeBytes}
 use Rattle.bits.specs.Over.{part, over}
-use Rattle.bits.proofs.Overs.{length-part, length-over}
+use Rattle.bits.proofs.Overs.{length-over}
 use Rattle.receiver.specs.Lines.{indexed}
-use Rattle.receiver.specs.Port.{stepAt, filedAt}
+use Rattle.receiver.specs.Port.{stepAt}
 use Rattle.receiver.specs.Receive.{Rx, rxOf}
 use Rattle.receiver.specs.Store.{packetsOf}
 use Rattle.receiver.specs.declared.Receiver.{Receiver}
 use Rattle.receiver.proofs.Keeps.{v3-sound}
-use Rattle.attributes.specs.Data as attributes
-use Rattle.commands.specs.Command.{Command, decode}
+use Rattle.attributes.specs.Data.{Whole}
+use Rattle.commands.specs.Command.{decode}
 use Rattle.run.specs.Run.{Ended, lined, onward, runs, Ready, portOf, endedOf}
 use Rattle.run.specs.declared.Lines.{Lines}
 use Rattle.run.specs.declared.Ran.{Ran}
 use Rattle.run.proofs.Hears.{ready-runs, complete}
 use Rattle.layout.specs.Block.{load, save}
-use Rattle.layout.specs.Good.{Good, GoodGame}
+use Rattle.layout.specs.Good.{Good}
 use Rattle.layout.specs.Sgb.{Sgb}
-use Rattle.layout.specs.Valid.{valid, Valid}
-use Rattle.layout.proofs.Goods.{valid-good, good-back, good-valid, length-save}
+use Rattle.layout.specs.Valid.{Valid}
+use Rattle.layout.proofs.Goods.{valid-good, saved-valid}
 use Rattle.layout.proofs.Made.{made-of}
-use Rattle.rules.specs.Carry.{withPads, carried, carriedGame, carriedSnes, plainly}
-use Rattle.rules.specs.Write.{meant, stepped, advanced, answer, written}
+use Rattle.rules.specs.Carry.{withPads, carried}
+use Rattle.rules.specs.Write.{meant, answer}
 use Rattle.rules.proofs.Keeps.{WholeIf, answered-whole, good-stepped, good-written}
-use Rattle.port.specs.Bytes.{linesOf, putReceiver, putLines, handed, packetsIn}
-use Rattle.port.proofs.Steps.{port-made, length-receiver}
+use Rattle.port.specs.Bytes.{linesOf, putReceiver, putLines, handed, packetsIn, taken, settled}
+use Rattle.port.proofs.Steps.{port-made, length-receiver, packets-taken}
 use Rattle.carry.specs.Carrying.{carriedBlock}
-use Rattle.play.specs.Play.{Played, played, taken, settled, handedOver, commandOf, ranTo, ranUnit}
-use Rattle.play.proofs.Plays.{further, with-store, none-written, one-written, one-stepped, mk, plays}
+use Rattle.unit.proofs.Writes.{none-carried, front, front-carried}
+use Rattle.play.specs.Play.{Played, played, handedOver, commandOf, ranTo, ranUnit}
+use Rattle.play.proofs.Plays.{further, none-written, one-written, one-stepped, mk, plays}
 
 -- ---- a good unit may run
 
@@ -160,46 +157,6 @@ module _ (b : List ℕ) (ok : Valid b) (r : Receiver) (l : Lines) (rx : rxOf r �
       ),
     )
 
--- ---- a run's command
-
-packets-told : (d : Ended) → d .packets < 8 → length (d .port .store) ≡ storeBytes → d .packets ≡ packetsIn (commandOf d)
-unfolding commandOf taken packetsIn
-packets-told d few long = go (d .packets) (d .port .store) few long
-  where
-    go : (n : ℕ) (s : List ℕ) → n < 8 → length s ≡ storeBytes → n ≡ packetsIn (taken n s)
-    go zero s few long = refl
-    go (suc n) s few long = omega (arith, length-take (16 * suc n) s)
-
-none-carried : (d : Ended) (u : Sgb) → d .packets ≡ 0 → u ≡ carried (meant (commandOf d)) u
-unfolding commandOf taken meant carried carriedGame carriedSnes plainly
-none-carried d u z = go (d .packets) z
-  where
-    go : (n : ℕ) → n ≡ 0 → u ≡ carried (meant (taken n (d .port .store))) u
-    go zero z = refl
-    go (suc n) z = absurd (omega arith)
-
-record One (d : Ended) (n : ℕ) (buffer : List ℕ) : Type 0 where
-  pub whole : attributes.Whole (take (16 * n) buffer)
-  pub room : 16 * n ≤ length buffer
-  pub means : meant (commandOf d) ≡ decode (take (16 * n) buffer)
-
-one-carried : (d : Ended) (n : ℕ) (before buffer : List ℕ) → WholeIf (commandOf d) → n ≡ packetsIn (commandOf d) → (n ≡ 0 → ⊥)
-    → buffer ≡ handed (commandOf d) before → One d n buffer
-one-carried d n before buffer w q z h = go (commandOf d) w refl q h
-  where
-    go : (o : Option (List ℕ)) → WholeIf o → commandOf d ≡ o → n ≡ packetsIn o → buffer ≡ handed o before → One d n buffer
-    go none w k q h = absurd (z (unfold packetsIn in q))
-    go (some c) w k q h =
-        let h′ : buffer ≡ c ++ drop (length c) before = (unfold handed in h) in
-        let p : n ≡ length c / 16 = (unfold packetsIn in q) in
-        let b : take (16 * n) buffer ≡ c = ap (take (16 * n)) h′ ∙ take-at c (drop (length c) before) (16 * n) (omega (arith, w .packets, p)) in
-        let m : meant (some c) ≡ decode c = (unfold meant in refl) in
-        record {
-          whole = record { least = omega (arith, w .least, ap length b); most = omega (arith, w .most, ap length b) };
-          room = omega (arith, length-take (16 * n) buffer, ap length b, w .packets, p);
-          means = ap meant k ∙ m ∙ ap decode (sym b);
-        }
-
 -- ---- the run's command, carried out
 
 module _ (b ws m : List ℕ) (ok : Valid b) (made : m ≡ save (ranUnit (load b) (ranTo (load b) ws))) where
@@ -213,7 +170,7 @@ module _ (b ws m : List ℕ) (ok : Valid b) (made : m ≡ save (ranUnit (load b)
   all = plays (load b) ws (good-ready (load b) (valid-good b (ok .tested)))
 
   pub ran-valid : Valid m
-  ran-valid = record { long = ap length made ∙ length-save (ranUnit (load b) e′) (f .good); tested = ap valid made ∙ good-valid (ranUnit (load b) e′) (f .good) }
+  ran-valid = saved-valid (ranUnit (load b) e′) (f .good) m made
 
   pub played-at : e′ .at ≡ played (load b) ws .at
   played-at = sym (ap (λ (p : Played). p .at) all)
@@ -224,7 +181,7 @@ module _ (b ws m : List ℕ) (ok : Valid b) (made : m ≡ save (ranUnit (load b)
   told-packets : e′ .packets ≡ packetsIn (commandOf e′)
   told-packets =
       let r : Ready (load b .port) (load b .game .index) (load b .game .pads) = good-ready (load b) (valid-good b (ok .tested)) in
-      packets-told e′
+      unfold commandOf in packets-taken (e′ .packets) (e′ .port .store)
       (unfold ranTo in complete (load b .game .pads) 0 (load b .game .index) (load b .port) ws r .few)
       (unfold ranTo in ready-runs (load b .game .pads) 0 (load b .game .index) (load b .port) ws r .long)
 
@@ -233,21 +190,17 @@ module _ (b ws m : List ℕ) (ok : Valid b) (made : m ≡ save (ranUnit (load b)
 
   -- none was complete: all is done
   pub played-none : e′ .packets ≡ 0 → m ≡ save (played (load b) ws .unit)
-  played-none z = made ∙ ap save (none-carried e′ (ranUnit (load b) e′) z ∙ sym (ap (λ (p : Played). p .unit) all))
+  played-none z = made ∙ ap save (none-carried (commandOf e′) (f .whole) (sym told-packets ∙ z) (ranUnit (load b) e′) ∙ sym (ap (λ (p : Played). p .unit) all))
 
   -- one was: the buffer's front is the command
   pub played-one : (n : ℕ) (before buffer : List ℕ) → n ≡ e′ .packets → (n ≡ 0 → ⊥) → buffer ≡ handed (commandOf e′) before
-      → attributes.Whole (take (16 * n) buffer) × ((16 * n ≤ length buffer)
+      → Whole (take (16 * n) buffer) × ((16 * n ≤ length buffer)
       × ((x : List ℕ) → x ≡ carriedBlock (decode (take (16 * n) buffer)) m → x ≡ save (played (load b) ws .unit)))
-  unfolding carriedBlock
   played-one n before buffer q z h =
-      let s = one-carried e′ n before buffer (f .whole) (q ∙ told-packets) z h in (
+      let s = front (commandOf e′) n before buffer (f .whole) (q ∙ told-packets) z h in (
         s .whole,
         (
           s .room,
-          λ x k.
-              k ∙ ap (λ (w : Sgb). save (carried (decode (take (16 * n) buffer)) w)) (ap load made ∙ good-back (ranUnit (load b) e′) (f .good))
-              ∙ ap (λ (c : Command). save (carried c (ranUnit (load b) e′))) (sym (s .means))
-              ∙ sym (ap (λ (p : Played). save (p .unit)) all),
+          λ x k. front-carried (ranUnit (load b) e′) (f .good) (commandOf e′) n m buffer x made s k ∙ sym (ap (λ (p : Played). save (p .unit)) all),
         ),
       )

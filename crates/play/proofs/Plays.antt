@@ -2,15 +2,14 @@
 use mathlib.Core.Path.{_≡_, refl, sym, ap, _∙_}
 use mathlib.Core.List.{List, [], _∷_}
 use mathlib.Core.Option.{Option, none, some}
-use Prim.Native.Nat.{ℕ, zero, suc, _+_, _-_, _*_, _<_, _≤_}
+use Prim.Native.Nat.{ℕ, zero, suc, _-_, _*_, _≤_}
 use native.Mathlib.Omega.{arith}
-use lib.ListN.{length, take, drop, replicate}
+use lib.ListN.{take, replicate}
 use Rattle.parts.specs.Parts.{storeBytes}
-use Rattle.bits.specs.Over.{over}
-use Rattle.port.specs.Bytes.{handed}
+use Rattle.port.specs.Bytes.{taken, settled}
 use Rattle.receiver.specs.Lines.{pulseOf, indexed}
-use Rattle.receiver.specs.Port.{Port, stepAt, filedAt, answered, wrote}
-use Rattle.receiver.specs.Store.{answerOf, emptied, packetsOf}
+use Rattle.receiver.specs.Port.{stepAt, filedAt, answered, wrote}
+use Rattle.receiver.specs.Store.{packetsOf}
 use Rattle.receiver.proofs.Sound.{good-written}
 use Rattle.run.specs.Run.{Ended, lined, onward, runs, Ready}
 use Rattle.run.proofs.Turns.{ready-lined}
@@ -18,7 +17,7 @@ use Rattle.run.proofs.Hears.{within, none-told, one-told}
 use Rattle.layout.specs.Sgb.{Sgb}
 use Rattle.rules.specs.Carry.{withPads, carried, carriedGame, carriedSnes, plainly}
 use Rattle.rules.specs.Write.{meant, carries, advanced, stepped, written, answer}
-use Rattle.play.specs.Play.{Played, stop, played, taken, settled, handedOver, commandOf, ranUnit, ranTo}
+use Rattle.play.specs.Play.{Played, stop, played, handedOver, commandOf, ranUnit, ranTo}
 
 -- the run from the i-th write on, as what was played
 abbrev by : Sgb → ℕ → Ended → Played
@@ -57,19 +56,6 @@ module _ (u : Sgb) (v : ℕ) where
 pub one-stepped : (u : Sgb) (v n : ℕ) → packetsOf (stepAt (u .port) v .done) ≡ suc n → with-store u v (replicate storeBytes 0) ≡ stepped u v
 unfolding stepped advanced wrote lined
 one-stepped u v n e = ap (with-store u v) (sym (one-told (stepAt (u .port) v .done) (filedAt (u .port) v) n e .1))
-
--- ---- the store and the buffer, by the packets of the command
-
-pub none-over : (n : ℕ) (s buffer : List ℕ) → n ≡ 0 → (s ≡ settled n s) × (buffer ≡ handed (taken n s) buffer)
-unfolding settled taken handed
-none-over zero s buffer e = (refl, refl)
-none-over (suc n) s buffer e = absurd (omega arith)
-
-pub one-over : (n k m : ℕ) (s buffer : List ℕ) → (n ≡ 0 → ⊥) → n < 8 → length s ≡ storeBytes → k ≡ 16 * n → m ≡ storeBytes
-    → (replicate m 0 ≡ settled n s) × (over 0 (length (take k s)) (take k s) buffer ≡ handed (taken n s) buffer)
-unfolding settled taken handed
-one-over zero k m s buffer h few l e f = absurd (h refl)
-one-over (suc n) k m s buffer h few l e f = (rw f refl, ap (λ (j : ℕ). over 0 (length (take j s)) (take j s) buffer) e)
 
 -- ---- a run is what was played
 

@@ -1,10 +1,9 @@
 -- Writes in a row on a unit: one after the other by the rules (`Write` of the crate `rules`), up to the first that completes a command.
-use Prim.Native.Nat.{ℕ, zero, suc, _*_}
+use Prim.Native.Nat.{ℕ, suc}
 use mathlib.Core.List.{List, [], _∷_}
 use mathlib.Core.Option.{Option, none, some}
-use lib.ListN.{take, replicate}
 use Rattle.run.specs.Run.{Ended, runs}
-use Rattle.parts.specs.Parts.{storeBytes}
+use Rattle.port.specs.Bytes.{taken, settled}
 use Rattle.layout.specs.Sgb.{Sgb}
 use Rattle.rules.specs.Carry.{withPads}
 use Rattle.rules.specs.Write.{written, answer}
@@ -26,16 +25,7 @@ played u (v ∷ vs) = stop (answer u v) (written u v) (played (written u v) vs)
 
 -- ---- the same up to where the command is carried out: what a run of the port alone leaves
 
--- the command of so many packets, at the front of the store
-unfoldable pub taken : ℕ → List ℕ → Option (List ℕ)
-taken zero s = none
-taken (suc n) s = some (take (16 * suc n) s)
-
--- .. and a command that was taken leaves the store empty
-unfoldable pub settled : ℕ → List ℕ → List ℕ
-settled zero s = s
-settled (suc n) s = replicate storeBytes 0
-
+-- with its command handed over, the store is empty again
 unfoldable pub handedOver : Ended → Ended
 handedOver e = record {
   port = record { p15 = e .port .p15; both = e .port .both; rx = e .port .rx; store = settled (e .packets) (e .port .store) };

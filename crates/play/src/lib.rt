@@ -1,14 +1,15 @@
 // Writes in a row on a valid block, up to the next command: the receiver is held in locals, and goes back into the block once, where a
 // command is complete or the writes end. Document 01, A write. The meaning is `played` in specs/Play.
 ghost use mathlib.Core.Path.{_≡_};
-ghost use Prim.Native.Nat.{_≤_, _<_};
+ghost use Prim.Native.Nat.{_≤_};
 ghost use lib.ListN.{length};
 ghost use Rattle.parts.specs.Parts.{storeBytes};
 ghost use Rattle.layout.specs.Block.{load, save};
 ghost use Rattle.layout.specs.Valid.{Valid};
 ghost use Rattle.port.specs.Bytes.{handed, packetsIn};
 ghost use Rattle.run.specs.Run.{runs, portOf, endedOf, Ready};
-ghost use Rattle.play.specs.Play.{played, ranTo, ranUnit, taken, handedOver, commandOf, settled};
+ghost use Rattle.play.specs.Play.{played, ranTo, ranUnit, handedOver, commandOf};
+use port::hand_over;
 use port::load_lines;
 use port::load_receiver;
 use port::save_lines;
@@ -85,18 +86,4 @@ fn run_on(
     let r = fast::run_fast(start, lines, mask, writes, store);
     hand_over(r.packets, store, command);
     r
-}
-
-// A complete command goes on from the store into the buffer, and leaves the store empty.
-fn hand_over(packets: u8, store: &mut [u8], command: &mut [u8])
-    requires { ⌜ (packets < 8) × ((length (now store) ≡ storeBytes) × (storeBytes ≤ length (now command))) ⌝ }
-    ensures { λ _. ⌜ now (store .exit) ≡ settled packets (now (store .entry)) ⌝ }
-    ensures { λ _. ⌜ now (command .exit) ≡ handed (taken packets (now (store .entry))) (now (command .entry)) ⌝ }
-{
-    if packets == 0 {
-        return;
-    }
-    let end = 16 * bits::wide(packets);
-    bits::put(command, 0, &store[0..end]);
-    bits::clear(store);
 }

@@ -1,13 +1,12 @@
 -- What a write completes goes on as its case says; and the port's bytes, put back one after the other, are the parts of the stepped unit.
 use mathlib.Core.Bool.{true}
-use mathlib.Core.List.{List, _++_}
-use mathlib.Core.Path.{_≡_, refl, sym, ap, _∙_}
-use Prim.Native.Nat.{ℕ, _+_, _*_, _<_, _≤_}
+use mathlib.Core.List.{List}
+use mathlib.Core.Path.{_≡_, refl, ap, _∙_}
+use Prim.Native.Nat.{ℕ, zero, suc, _+_, _*_, _<_}
 use native.Mathlib.Omega.{arith}
 use lib.Bits.{and-le-r}
 use lib.Dec.{lit<}
-use lib.ListN.{length, take, drop, set, replicate, length-set}
-use lib.Seq.{length-take-le}
+use lib.ListN.{length, take, set, replicate, length-set, length-take}
 use Rattle.parts.specs.Parts.{blockBytes, indexAt, p15At, bothAt, stageAt, expectedAt, receivedAt, bitsAt, packetAt, packetBytes, storeAt, storeBytes}
 use Rattle.bits.proofs.Overs.{length-part, length-over}
 use Rattle.bits.specs.Over.{part, over}
@@ -29,47 +28,45 @@ use Rattle.layout.specs.Good.{GoodGame}
 use Rattle.layout.specs.Sgb.{Sgb}
 use Rattle.layout.specs.Valid.{valid}
 use Rattle.packet.proofs.Halves.{put-words}
-use Rattle.port.specs.Bytes.{putReceiver, putLines, handed, packetsIn}
+use Rattle.port.specs.Bytes.{putReceiver, putLines, handed, packetsIn, taken, settled}
 use Rattle.rules.specs.Carry.{withPads}
 use Rattle.rules.specs.Write.{advanced, stepped, answer}
 use Rattle.run.specs.declared.Lines.{Lines}
+use Rattle.run.proofs.Hears.{few-packets}
 
 -- ---- what a write completed
 
--- no command is complete: the store stays, and the buffer
-pub none-complete : (d : Done) (s buffer : List ℕ) → Fits d → packetsOf d ≡ 0 → (s ≡ emptied d s) × (buffer ≡ handed (answerOf d s) buffer)
-unfolding packetsOf emptied answerOf handed
-none-complete Nothing s buffer f e = (refl, refl)
-none-complete (Packet n) s buffer f e = (refl, refl)
-none-complete (Command n) s buffer f e = absurd (omega arith)
+-- told by its packets: what it leaves of the store, and what it answers
+pub done-handed : (d : Done) (s : List ℕ) → Fits d → (settled (packetsOf d) s ≡ emptied d s) × (taken (packetsOf d) s ≡ answerOf d s)
+unfolding packetsOf emptied answerOf settled taken
+done-handed Nothing s f = (refl, refl)
+done-handed (Packet n) s f = (refl, refl)
+done-handed (Command zero) s f = absurd (omega (arith, f .0))
+done-handed (Command (suc n)) s f = (refl, refl)
 
--- a command is: the store is zeros, and the buffer's front has the command
-pub one-complete : (d : Done) (s buffer : List ℕ) → Fits d → length s ≡ storeBytes → (packetsOf d ≡ 0 → ⊥)
-    → (replicate storeBytes 0 ≡ emptied d s) × (over 0 (16 * packetsOf d) (take (16 * packetsOf d) s) buffer ≡ handed (answerOf d s) buffer)
-unfolding packetsOf emptied answerOf handed
-one-complete Nothing s buffer f l h = absurd (h refl)
-one-complete (Packet n) s buffer f l h = absurd (h refl)
-one-complete (Command n) s buffer f l h =
-    (refl, ap (λ (k : ℕ). take (16 * n) s ++ drop k buffer) (sym (length-take-le (16 * n) s (omega arith))))
-
--- the code's copy of the front of the store is that
-pub front-put : (k n : ℕ) (r s buffer : List ℕ) → k ≡ 16 * n → r ≡ s → 16 * n ≤ length s
-    → over 0 (length (take k r)) (take k r) buffer ≡ over 0 (16 * n) (take (16 * n) s) buffer
-front-put k n r s buffer e f h =
-    (λ t. over 0 (length (take (e t) (f t))) (take (e t) (f t)) buffer)
-    ∙ ap (λ (m : ℕ). over 0 m (take (16 * n) s) buffer) (length-take-le (16 * n) s h)
-
-pub few-packets : (d : Done) → Fits d → packetsOf d < 8
-unfolding packetsOf
-few-packets Nothing f = lit< tt
-few-packets (Packet n) f = lit< tt
-few-packets (Command n) f = f .1
+pub packets-taken : (n : ℕ) (s : List ℕ) → n < 8 → length s ≡ storeBytes → n ≡ packetsIn (taken n s)
+unfolding taken packetsIn
+packets-taken zero s few long = refl
+packets-taken (suc n) s few long = omega (arith, length-take (16 * suc n) s)
 
 pub packets-answered : (d : Done) (s : List ℕ) → Fits d → length s ≡ storeBytes → packetsOf d ≡ packetsIn (answerOf d s)
-unfolding packetsOf answerOf packetsIn
-packets-answered Nothing s f l = refl
-packets-answered (Packet n) s f l = refl
-packets-answered (Command n) s f l = let e : length (take (16 * n) s) ≡ 16 * n = length-take-le (16 * n) s (omega arith) in omega arith
+packets-answered d s f l = packets-taken (packetsOf d) s (few-packets d f) l ∙ ap packetsIn (done-handed d s f .1)
+
+-- the store and the buffer, where no command is complete, and where one is
+pub none-over : (n : ℕ) (s buffer : List ℕ) → n ≡ 0 → (s ≡ settled n s) × (buffer ≡ handed (taken n s) buffer)
+unfolding settled taken handed
+none-over zero s buffer e = (refl, refl)
+none-over (suc n) s buffer e = absurd (omega arith)
+
+pub one-settled : (n m : ℕ) (s : List ℕ) → (n ≡ 0 → ⊥) → m ≡ storeBytes → replicate m 0 ≡ settled n s
+unfolding settled
+one-settled zero m s h e = absurd (h refl)
+one-settled (suc n) m s h e = rw e refl
+
+pub one-handed : (n : ℕ) (s buffer : List ℕ) → (n ≡ 0 → ⊥) → over 0 (length (take (16 * n) s)) (take (16 * n) s) buffer ≡ handed (taken n s) buffer
+unfolding taken handed
+one-handed zero s buffer h = absurd (h refl)
+one-handed (suc n) s buffer h = refl
 
 -- ---- the port's bytes
 

@@ -1,14 +1,14 @@
 -- The port's bytes of the block: what the code reads of a unit and puts back. Document 01, The unit block: bytes 1 and 3 to 8, and the
 -- current packet from byte 16 on. The packet store is a part of its own.
-use Prim.Native.Nat.{ℕ, _/_}
+use Prim.Native.Nat.{ℕ, zero, suc, _*_, _/_}
 use mathlib.Core.List.{List, _++_}
 use mathlib.Core.Option.{Option, none, some}
-use lib.ListN.{length, drop, set}
+use lib.ListN.{length, take, drop, set, replicate}
 use Rattle.bits.specs.Over.{over}
 use Rattle.receiver.specs.Receive.{Rx, stageNumber}
 use Rattle.receiver.specs.Store.{bytesOf}
 use Rattle.run.specs.declared.Lines.{Lines}
-use Rattle.parts.specs.Parts.{indexAt, p15At, bothAt, stageAt, expectedAt, receivedAt, bitsAt, packetAt, packetBytes}
+use Rattle.parts.specs.Parts.{indexAt, p15At, bothAt, stageAt, expectedAt, receivedAt, bitsAt, packetAt, packetBytes, storeBytes}
 use Rattle.layout.specs.Block.{flag}
 use Rattle.layout.specs.Sgb.{Sgb}
 
@@ -37,3 +37,15 @@ handed (some c) buffer = c ++ drop (length c) buffer
 unfoldable pub packetsIn : Option (List ℕ) → ℕ
 packetsIn none = 0
 packetsIn (some c) = length c / 16
+
+-- ---- a complete command of so many packets, or 0
+
+-- it stands at the front of the store
+unfoldable pub taken : ℕ → List ℕ → Option (List ℕ)
+taken zero s = none
+taken (suc n) s = some (take (16 * suc n) s)
+
+-- .. and when it was taken the store is empty
+unfoldable pub settled : ℕ → List ℕ → List ℕ
+settled zero s = s
+settled (suc n) s = replicate storeBytes 0

@@ -2,7 +2,7 @@
 // write, and back. Document 01, A write. The meaning is `stepped` in the crate `rules`; the port's bytes are in specs/Bytes.
 ghost use mathlib.Core.Path.{_≡_};
 ghost use mathlib.Core.Bool.{true};
-ghost use Prim.Native.Nat.{_≤_};
+ghost use Prim.Native.Nat.{_≤_, _<_};
 ghost use lib.ListN.{length};
 ghost use Rattle.parts.specs.Parts.{blockBytes, storeBytes};
 ghost use Rattle.layout.specs.Block.{load, save, stageOf, flag};
@@ -10,7 +10,7 @@ ghost use Rattle.layout.specs.Valid.{valid};
 ghost use Rattle.receiver.specs.Receive.{rxOf, words};
 ghost use Rattle.receiver.specs.Store.{filed, emptied, answerOf, packetsOf, Fits};
 ghost use Rattle.rules.specs.Write.{stepped, answer};
-ghost use Rattle.port.specs.Bytes.{linesOf, putReceiver, putLines, handed, packetsIn};
+ghost use Rattle.port.specs.Bytes.{linesOf, putReceiver, putLines, handed, packetsIn, taken, settled};
 use bits::clear;
 use bits::put;
 use bits::wide;
@@ -95,22 +95,30 @@ pub fn load_lines(block: &[u8]) -> Lines
     }
 }
 
-// What a write completed goes into the store, with the packet that was coming in before it. A command that is complete goes on into the
-// buffer, and leaves the store empty.
-pub fn complete(w: Written, lo: u64, hi: u64, store: &mut [u8], command: &mut [u8]) -> u8
+// What a write completed goes into the store, with the packet that was coming in before it, and is handed over.
+fn complete(w: Written, lo: u64, hi: u64, store: &mut [u8], command: &mut [u8]) -> u8
     requires { ⌜ Fits (w .done) × ((length (now store) ≡ storeBytes) × (storeBytes ≤ length (now command))) ⌝ }
     ensures { λ r. ⌜ r ≡ packetsOf (w .done) ⌝ }
     ensures { λ _. ⌜ now (store .exit) ≡ emptied (w .done) (filed (w .done) (words lo hi) (now (store .entry))) ⌝ }
     ensures { λ _. ⌜ now (command .exit) ≡ handed (answerOf (w .done) (filed (w .done) (words lo hi) (now (store .entry)))) (now (command .entry)) ⌝ }
 {
     let n = file(w, lo, hi, store);
-    if n == 0 {
-        return 0;
+    hand_over(n, store, command);
+    n
+}
+
+// A complete command goes on from the store into the buffer, and leaves the store empty.
+pub fn hand_over(packets: u8, store: &mut [u8], command: &mut [u8])
+    requires { ⌜ (packets < 8) × ((length (now store) ≡ storeBytes) × (storeBytes ≤ length (now command))) ⌝ }
+    ensures { λ _. ⌜ now (store .exit) ≡ settled packets (now (store .entry)) ⌝ }
+    ensures { λ _. ⌜ now (command .exit) ≡ handed (taken packets (now (store .entry))) (now (command .entry)) ⌝ }
+{
+    if packets == 0 {
+        return;
     }
-    let end = 16 * wide(n);
+    let end = 16 * wide(packets);
     put(command, 0, &store[0..end]);
     clear(store);
-    n
 }
 
 pub fn save_receiver(block: &mut [u8], rx: Receiver)

@@ -9,11 +9,10 @@ use native.Mathlib.Omega.{arith}
 use lib.ListN.{length, getD, take, drop, length-append, length-drop, take-append-drop}
 use lib.Seq.{length-take-le, getD-take, take-at, take-all}
 use Rattle.parts.specs.Parts.{storeBytes}
-use Rattle.bits.proofs.Overs.{length-over}
 use Rattle.receiver.specs.Count.{countOf}
 use Rattle.receiver.specs.Store.{bytesOf, appended}
 use Rattle.receiver.specs.Port.{Port, told, heard}
-use Rattle.receiver.proofs.Words.{length-bytes}
+use Rattle.receiver.proofs.Sound.{length-appended}
 use Rattle.pulses.specs.Bytes.{Bytes, packetsIn, malformed}
 use Rattle.pulses.specs.Encode.{bitsIn, packetPulses, pulsesOf}
 use Rattle.pulses.specs.Trip.{NoneHeld, resting}
@@ -50,10 +49,6 @@ so-far s q n l h k =
     ∙ ap (take (16 * (n + 1))) (sym (append-assoc (take (16 * n) s) q (drop 16 (drop (16 * n) s))))
     ∙ take-at (take (16 * n) s ++ q) (drop 16 (drop (16 * n) s)) (16 * (n + 1)) (length-append (take (16 * n) s) q ∙ omega arith)
 
-long : (s : List ℕ) (p n : ℕ) → n < 7 → length s ≡ storeBytes → length (appended s p n) ≡ storeBytes
-unfolding appended
-long s p n h l = length-over (16 * n) 16 (bytesOf 16 p) s (omega arith) (length-bytes 16 p) ∙ l
-
 -- ---- the packets behind the first
 
 module _ (c : List ℕ) (k : ℕ) (rest : List ℕ) where
@@ -79,7 +74,7 @@ later (suc k) e n c s rest h l m z d f =
     ap (heard (awaiting e n s)) (apart c (suc k) rest)
     ∙ next-sent (take 16 c) e n s (pulsesOf (suc k) (drop 16 c) ++ rest) t
     ∙ stop-more e n p e s (pulsesOf (suc k) (drop 16 c) ++ rest) (as-told z refl) (omega arith)
-    ∙ later k e (n + 1) (drop 16 c) (appended s p n) rest (bytes-drop 16 c h) (length-drop 16 c ∙ omega arith) (long s p n (omega arith) m)
+    ∙ later k e (n + 1) (drop 16 c) (appended s p n) rest (bytes-drop 16 c h) (length-drop 16 c ∙ omega arith) (length-appended s p n (omega arith) m)
     (omega arith) (omega arith) f
     ∙ ap (λ (x : List ℕ). told (some x) (heard resting rest))
     (ap (λ (x : List ℕ). x ++ drop 16 c) (so-far s (take 16 c) n t b (omega arith))
@@ -115,7 +110,7 @@ module _ (u : Port) (c rest : List ℕ) (h : Bytes c) (m : length (u .store) ≡
       ∙ first-sent u (take 16 c) tail f t
       ∙ stop-more x 0 p (suc (suc k)) (u .store) tail (by-count refl (ap countOf (counts t) ∙ e) (omega arith)) (omega arith)
       ∙ later k (suc (suc k)) 1 (drop 16 c) (appended (u .store) p 0) rest (bytes-drop 16 c h) (length-drop 16 c ∙ omega arith)
-      (long (u .store) p 0 (omega arith) m) (omega arith) (omega arith) g
+      (length-appended (u .store) p 0 (omega arith) m) (omega arith) (omega arith) g
       ∙ ap (λ (y : List ℕ). told (some y) (heard resting rest))
       (ap (λ (y : List ℕ). y ++ drop 16 c) (so-far (u .store) (take 16 c) 0 t (bytes-take 16 c h) (omega arith)) ∙ take-append-drop 16 c)
 

@@ -8,13 +8,12 @@ use lib.ListN.{length, getD, take, drop}
 use lib.Seq.{length-take-le, take-at}
 use borrow.Author.Tests.{ltb-false}
 use Rattle.parts.specs.Parts.{storeBytes}
-use Rattle.receiver.specs.Receive.{idle}
 use Rattle.receiver.specs.Port.{Port, Heard, told, heard}
 use Rattle.run.specs.Run.{Ended, runs, resumed, Ready}
 use Rattle.run.proofs.Hears.{hears, complete, ready-runs}
 use Rattle.pulses.specs.Bytes.{Bytes, packetsIn, malformed, commandPackets}
 use Rattle.pulses.specs.Encode.{pulsesOf, short, encoded}
-use Rattle.pulses.specs.Trip.{NoneHeld, resting}
+use Rattle.pulses.specs.Trip.{NoneHeld, Returned, resting}
 use Rattle.pulses.proofs.Commands.{formed}
 use Rattle.pulses.proofs.Front.{length-so-far}
 use Rattle.pulses.proofs.Packets.{length-pulses}
@@ -40,14 +39,9 @@ heard-one c (suc n) u p rest e h l =
     first [] = []
     first (x ∷ xs) = x
 
--- what a run of a command's pulses ends with
-pub record Back (c : List ℕ) (e : Ended) : Type 0 where
-  pub complete : 16 * e .packets ≡ length c
-  pub unchanged : take (length c) (e .port .store) ≡ c
-  pub at-rest : e .port .rx ≡ idle
-
+-- the run of a command's pulses
 pub comes-back : (u : Port) (c ws : List ℕ) (mask x : ℕ) (e : Ended) → malformed c ≡ false → Bytes c → Ready u x mask → NoneHeld (u .rx)
-    → ws ≡ pulsesOf (packetsIn c) c → e ≡ runs mask 0 x u ws → Back c e
+    → ws ≡ pulsesOf (packetsIn c) c → e ≡ runs mask 0 x u ws → Returned c e
 comes-back u c ws mask x e t b r f w h =
     let g : Ended = runs mask 0 x u ws in
     let q = complete mask 0 x u ws r in

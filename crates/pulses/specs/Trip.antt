@@ -8,9 +8,9 @@ use lib.ListN.{length, take, replicate}
 use Rattle.parts.specs.Parts.{storeBytes}
 use Rattle.receiver.specs.declared.Stage.{Stage}
 use Rattle.receiver.specs.declared.Stage.the-variants.{Idle, Receiving, Awaiting}
-use Rattle.receiver.specs.Receive.{Rx, idle, rxOf}
+use Rattle.receiver.specs.Receive.{Rx, idle}
 use Rattle.receiver.specs.Port.{Port}
-use Rattle.run.specs.declared.Ran.{Ran}
+use Rattle.run.specs.Run.{Ended}
 
 -- no earlier packet is held: idle, or receiving with received 0, at any bit index
 abbrev pub NoneHeldAt : Stage → Rx → Type 0
@@ -25,8 +25,8 @@ NoneHeld r = NoneHeldAt (r .stage) r
 unfoldable pub resting : Port
 resting = record { p15 = true; both = true; rx = idle; store = replicate storeBytes 0 }
 
--- a run of the code that ended so, with this store, hands back the command c and has gone idle
-pub record Returned (c : List ℕ) (r : Ran) (store : List ℕ) : Type 0 where
-  pub complete : 16 * r .packets ≡ length c
-  pub unchanged : take (length c) store ≡ c
-  pub at-rest : rxOf (r .rx) ≡ idle
+-- a run that ended so hands back the command c, at the front of its store, and has gone idle
+pub record Returned (c : List ℕ) (e : Ended) : Type 0 where
+  pub complete : 16 * e .packets ≡ length c
+  pub unchanged : take (length c) (e .port .store) ≡ c
+  pub at-rest : e .port .rx ≡ idle

@@ -3,7 +3,7 @@ ghost use mathlib.Core.Path.{_≡_};
 ghost use mathlib.Core.Bool.{false};
 ghost use lib.ListN.{length};
 ghost use Rattle.receiver.specs.Receive.{rxOf};
-ghost use Rattle.run.specs.Run.{portOf, Ready};
+ghost use Rattle.run.specs.Run.{portOf, endedOf, Ready};
 ghost use Rattle.pulses.specs.Bytes.{malformed};
 ghost use Rattle.pulses.specs.Encode.{short};
 ghost use Rattle.pulses.specs.Trip.{NoneHeld, Returned};
@@ -25,7 +25,7 @@ pub fn send(
 ) -> Ran
     requires { ⌜ (malformed (now command) ≡ false) × (short (now command) (length (now out)) ≡ false) ⌝ }
     requires { ⌜ Ready (portOf rx lines (now store)) (lines .index) mask × NoneHeld (rxOf rx) ⌝ }
-    ensures { λ r. ⌜ Returned (now (command .entry)) r (now (store .exit)) ⌝ }
+    ensures { λ r. ⌜ Returned (now (command .entry)) (endedOf r (now (store .exit))) ⌝ }
 {
     encode(command, out);
     let n = 260 * packets_of(command);

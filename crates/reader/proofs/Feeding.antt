@@ -1,23 +1,20 @@
 -- A turn of reading keeps what the steps of `log` require, and a fill leaves less to do.
-use mathlib.Core.Path.{_≡_, refl, sym, ap, ap₂, _∙_, subst⁻¹}
+use mathlib.Core.Path.{_≡_, ap, ap₂, _∙_, subst⁻¹}
 use mathlib.Core.Bool.{true}
 use mathlib.Core.List.{List}
-use Prim.Native.Nat.{ℕ, _+_, _*_, _≤_, _<_}
+use Prim.Native.Nat.{ℕ, _+_, _≤_, _<_}
 use native.Mathlib.Omega.{arith}
 use lib.Dec.{ltb}
 use lib.ListN.{length}
 use Rattle.bits.proofs.Tests.{either}
-use Rattle.parts.specs.Parts.{blockBytes, storeBytes, captureBytes}
 use Rattle.layout.specs.Fresh.{fresh, postBoot}
 use Rattle.layout.specs.Valid.{Valid}
-use Rattle.layout.specs.Block.{save}
 use Rattle.layout.proofs.Freshes.{fresh-good}
-use Rattle.line.specs.Line.{lineDigits}
-use Rattle.log.specs.Steps.{Desk, desk, begun, Filling, fill, filledTo, Full, left, lastLf, Fit}
+use Rattle.layout.proofs.Goods.{saved-valid}
+use Rattle.log.specs.Steps.{Desk, desk, begun, Filling, fill, filledTo, Full, left, lastLf, stepRoom, Fit}
 use Rattle.log.specs.declared.Filled.{Filled}
 use Rattle.log.specs.declared.Reading.{Reading}
 use Rattle.log.proofs.Fills.{Fill·Keeps, fill-keeps, fill-less}
-use Rattle.log.proofs.Keeps.{good-saved}
 use Rattle.reader.specs.Fed.{Sized, Kept}
 use Rattle.reader.specs.declared.Fed.{Fed}
 
@@ -48,7 +45,7 @@ module _ (r₀ r : Reading) (d : Desk) (chunk : List ℕ) (at : ℕ) (out : List
     counted = omega (arith, at-is, ap (λ (x : Reading). x .number) reading-is, k .counted, t .counted);
   }
 
-  pub filled-less : 0 < left r (length chunk) at → 256 ≤ length out → left (g .reading) (length chunk) (g .at) < left r (length chunk) at
+  pub filled-less : 0 < left r (length chunk) at → stepRoom ≤ length out → left (g .reading) (length chunk) (g .at) < left r (length chunk) at
   filled-less more big =
       subst⁻¹ (λ (n : ℕ). n < left r (length chunk) at) (ap₂ (λ (x : Reading) (i : ℕ). left x (length chunk) i) reading-is at-is)
       (fill-less (length out) r d chunk at (t .fit) (t .within) more big)
@@ -63,7 +60,7 @@ kept-more r m n f e h k = record { fit = k .fit; counted = omega (arith, k .coun
 -- a fresh unit and the buffers of the programs
 boot-valid : (b : List ℕ) → b ≡ postBoot → Valid b
 unfolding postBoot
-boot-valid b e = subst⁻¹ Valid e (good-saved (fresh true) (fresh-good true))
+boot-valid b e = saved-valid (fresh true) (fresh-good true) b e
 
 pub boot-fit : (d : Desk) (b : List ℕ) (r : Reading) → Sized d → b ≡ postBoot → r ≡ begun → Fit r (desk b (d .line) (d .bytes) (d .command))
 boot-fit d b r s e h = subst⁻¹ (λ (x : Reading). Fit x (desk b (d .line) (d .bytes) (d .command))) h

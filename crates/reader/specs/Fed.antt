@@ -1,6 +1,5 @@
 -- What reading keeps: the buffers are those that the steps of `log` require, and lines are counted within the bytes that came.
 use Prim.Native.Nat.{ℕ, _+_, _≤_}
-use mathlib.Core.List.{List}
 use mathlib.Core.Path.{_≡_}
 use lib.ListN.{length}
 use Rattle.parts.specs.Parts.{blockBytes, storeBytes, captureBytes}
@@ -15,6 +14,10 @@ chunkBytes = 4096
 
 abbrev pub outBytes : ℕ
 outBytes = 2048
+
+-- as far as lines are counted before a read: what one more chunk brings then stays below 2^64
+abbrev pub mostLines : ℕ
+mostLines = 9223372036854775808
 
 -- the buffers as they are lent at first
 pub record Sized (d : Desk) : Type 0 where

@@ -5,7 +5,7 @@ ghost use Prim.Native.Nat.{_+_, _≤_};
 ghost use lib.ListN.{length};
 ghost use Rattle.layout.specs.Valid.{Valid};
 ghost use Rattle.log.specs.Steps.{Fit, desk};
-ghost use Rattle.reader.specs.Fed.{Sized, Kept, chunkBytes, outBytes};
+ghost use Rattle.reader.specs.Fed.{Sized, Kept, chunkBytes, outBytes, mostLines};
 use libc::STDERR_FILENO;
 use libc::STDIN_FILENO;
 use libc::STDOUT_FILENO;
@@ -85,7 +85,7 @@ fn turn(
     quiet: bool,
 ) -> Fed
     requires { ⌜ Fit reading (desk (now block) (now line) (now bytes) (now command)) ⌝ }
-    requires { ⌜ reading .number ≤ 9223372036854775808 ⌝ }
+    requires { ⌜ reading .number ≤ mostLines ⌝ }
     requires { ⌜ (length (now out) ≡ outBytes) × (length (now chunk) ≡ chunkBytes) ⌝ }
     ensures { λ r. ⌜ Kept reading chunkBytes r (desk (now (block .exit)) (now (line .exit)) (now (bytes .exit)) (now (command .exit))) ⌝ }
 {
@@ -124,7 +124,7 @@ fn finish(
     quiet: bool,
 ) -> Fed
     requires { ⌜ Fit reading (desk (now block) (now line) (now bytes) (now command)) ⌝ }
-    requires { ⌜ reading .number ≤ 9223372036854775808 ⌝ }
+    requires { ⌜ reading .number ≤ mostLines ⌝ }
     requires { ⌜ length (now out) ≡ outBytes ⌝ }
     ensures { λ r. ⌜ Kept reading 1 r (desk (now (block .exit)) (now (line .exit)) (now (bytes .exit)) (now (command .exit))) ⌝ }
 {
@@ -150,7 +150,7 @@ fn feed(
     quiet: bool,
 ) -> Fed
     requires { ⌜ Fit start (desk (now block) (now line) (now bytes) (now command)) ⌝ }
-    requires { ⌜ (start .number ≤ 9223372036854775808) × (length (now chunk) ≤ chunkBytes) ⌝ }
+    requires { ⌜ (start .number ≤ mostLines) × (length (now chunk) ≤ chunkBytes) ⌝ }
     requires { ⌜ length (now out) ≡ outBytes ⌝ }
     ensures { λ r. ⌜ Kept start (length (now (chunk .entry))) r (desk (now (block .exit)) (now (line .exit)) (now (bytes .exit)) (now (command .exit))) ⌝ }
 {

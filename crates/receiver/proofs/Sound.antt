@@ -124,7 +124,7 @@ has-place w r p rel s h = subst⁻¹ (λ (x : Step). Fits (x .done)) h (good-wri
 
 -- ---- the store stays 112 bytes long
 
-length-appended : (s : List ℕ) (p n : ℕ) → n < 7 → length s ≡ storeBytes → length (appended s p n) ≡ storeBytes
+pub length-appended : (s : List ℕ) (p n : ℕ) → n < 7 → length s ≡ storeBytes → length (appended s p n) ≡ storeBytes
 unfolding appended
 length-appended s p n h l = length-over (16 * n) 16 (bytesOf 16 p) s (omega arith) (length-bytes 16 p) ∙ l
 

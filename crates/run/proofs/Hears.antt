@@ -76,7 +76,7 @@ pub record Complete (e : Ended) : Type 0 where
   pub few : e .packets < 8
   pub rests : (n : ℕ) → e .packets ≡ suc n → e .port .rx ≡ idle
 
-few-packets : (d : Done) → Fits d → packetsOf d < 8
+pub few-packets : (d : Done) → Fits d → packetsOf d < 8
 unfolding packetsOf
 few-packets Nothing f = lit< tt
 few-packets (Packet n) f = lit< tt

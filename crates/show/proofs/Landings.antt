@@ -1,14 +1,14 @@
 -- What a screen leaves, told by parts (`Made`), is the block of the unit after it: the parts of the one are the parts of the other.
-use mathlib.Core.Path.{_≡_, sym, ap, _∙_, subst⁻¹}
+use mathlib.Core.Path.{_≡_, sym, ap, _∙_}
 use mathlib.Core.Bool.{true, false}
 use mathlib.Core.List.{List}
 use Prim.Native.Nat.{ℕ, _+_, _≤_}
 use native.Mathlib.Omega.{arith}
 use lib.Dec.{lit<, lit≤}
 use lib.ListN.{length, take, drop, set, length-take, length-drop}
-use Rattle.parts.specs.Parts.{blockBytes, countdownAt, kindAt, systemAt, systemBytes, filesAt, filesBytes, liveAt, captureBytes, tilesAt, tilesBytes, halfBytes, upperTilesAt, borderMapAt, borderMapBytes, borderPalettesBytes, borderBytes}
+use Rattle.parts.specs.Parts.{countdownAt, kindAt, systemAt, systemBytes, filesAt, filesBytes, liveAt, captureBytes, tilesAt, tilesBytes, halfBytes, upperTilesAt, borderMapAt, borderMapBytes, borderPalettesBytes, borderBytes}
 use Rattle.bits.specs.Over.{part, over}
-use Rattle.bits.proofs.Overs.{length-over, length-part, over-split}
+use Rattle.bits.proofs.Overs.{length-over, over-split}
 use Rattle.transfer.specs.Landing.{palettesLanded, filesLanded, tilesLanded, mapLanded}
 use Rattle.transfer.specs.Page.{pageBytes, pageOf}
 use Rattle.transfer.specs.Pending.{countdownOf, kindOf}
@@ -21,13 +21,12 @@ use Rattle.transfer.proofs.Parts.{page-long, border-long}
 use Rattle.layout.specs.Block.{load, save, parts}
 use Rattle.layout.specs.Good.{Good}
 use Rattle.layout.specs.Sgb.{Sgb}
-use Rattle.layout.proofs.Goods.{valid-good, good-valid, good-back}
+use Rattle.layout.proofs.Goods.{valid-good, good-back, saved-valid}
 use Rattle.layout.proofs.Made.{Made, made-of, made-put, made-set, made-save, over-inside}
-use Rattle.layout.proofs.Saved.{clauses, save-load}
+use Rattle.layout.proofs.Saved.{clauses, save-load, long-part}
 use Rattle.rules.specs.Screen.{captured, withSystem, withFiles, withTiles, withBorder, landed, landing, shown, screened}
 use Rattle.rules.proofs.Keeps.{captured-good}
 use Rattle.carry.specs.Carrying.{Valid}
-use Rattle.carry.proofs.Steps.{held}
 use Rattle.show.specs.Shown.{withSnes, snesBlock, countedDown}
 
 -- ---- the two bytes
@@ -44,9 +43,6 @@ counted-down b p q n k e f g h =
 module _ (b : List ℕ) (v : Valid b) where
   made : Made b (parts (load b))
   made = made-of b (v .tested)
-
-  part-long : (at n : ℕ) → at + n ≤ blockBytes → length (part at n b) ≡ n
-  part-long at n h = length-part at n b (omega (arith, v .long))
 
   -- the live capture, and the countdown
   pub captured-put : (x e last : List ℕ) → length x ≡ captureBytes → e ≡ countedDown b → last ≡ over liveAt (length x) x e → last ≡ snesBlock (captured x) b
@@ -96,7 +92,7 @@ module _ (b : List ℕ) (v : Valid b) where
   -- the half that begins i bytes into the tiles
   half-put : (i : ℕ) → i + halfBytes ≤ tilesBytes → (x : List ℕ) → over (tilesAt + i) halfBytes (pageOf x) b ≡ save (withSnes (withTiles (over i halfBytes (pageOf x) (part tilesAt tilesBytes b))) (load b))
   half-put i h x =
-      let n : length (part tilesAt tilesBytes b) ≡ tilesBytes = part-long tilesAt tilesBytes (lit≤ tt) in
+      let n : length (part tilesAt tilesBytes b) ≡ tilesBytes = long-part b (v .long) tilesAt tilesBytes (lit≤ tt) in
       over-inside b (v .long) 10 i halfBytes h (lit≤ tt) (pageOf x)
       ∙ tiles-put (over i halfBytes (pageOf x) (part tilesAt tilesBytes b)) (length-over i halfBytes (pageOf x) (part tilesAt tilesBytes b) (omega arith) (page-long x) ∙ n)
 
@@ -121,8 +117,7 @@ module _ (b : List ℕ) (v : Valid b) where
 
   pub captured-valid : (x e : List ℕ) → length x ≡ captureBytes → e ≡ snesBlock (captured x) b → Valid e
   unfolding snesBlock
-  captured-valid x e l q =
-      subst⁻¹ (λ (y : List ℕ). Valid y) q (held (save (withSnes (captured x) (load b))) (good-valid (withSnes (captured x) (load b)) (captured-whole x l)))
+  captured-valid x e l q = saved-valid (withSnes (captured x) (load b)) (captured-whole x l) e q
 
   pub all-shown : (x : List ℕ) (n : Landed) (e last : List ℕ) → length x ≡ captureBytes → n ≡ landing (load b .snes) → e ≡ snesBlock (captured x) b
       → last ≡ snesBlock (landed n x) e → last ≡ save (screened (load b) x)

@@ -1,7 +1,6 @@
 -- Document 01's texts: what `replay` prints for `01003020`, and the first line's refusal.
 use mathlib.Core.Path.{_≡_, refl}
 use mathlib.Core.List.{[], _∷_}
-use Rattle.io.specs.Digits.{digits}
 use Rattle.bits.specs.Word.{lowByte, highByte}
 use Rattle.hex.specs.Hex.{capital, hexText}
 use Rattle.text.specs.Text.{hexLine, placesFrom, decimalText, refusalOf, refusalText, wordText, wordsText, rowLine}

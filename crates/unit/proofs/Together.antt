@@ -5,10 +5,10 @@ use native.Mathlib.Omega.{arith}
 use mathlib.Core.Path.{_≡_, refl, sym, ap, _∙_}
 use mathlib.Core.Bool.{Bool, true, false, cond}
 use mathlib.Core.List.{List, [], _∷_, map}
-use mathlib.Core.Option.{Option, none, some}
+use mathlib.Core.Option.{Option}
 use borrow.Author.Tests.{eqb-true, le-leb}
 use lib.Dec.{eqb}
-use lib.ListN.{length, length-append, length-drop}
+use lib.ListN.{length}
 use Rattle.pulses.specs.Answer.{Answer, refused, given}
 use Rattle.transfer.specs.Pending.{landedOf}
 use Rattle.parts.specs.Parts.{storeBytes, captureBytes}
@@ -18,7 +18,7 @@ use Rattle.layout.proofs.Saved.{clauses}
 use Rattle.layout.proofs.Goods.{valid-good, good-valid}
 use Rattle.rules.specs.Write.{written, answer}
 use Rattle.rules.specs.Screen.{screened, landing}
-use Rattle.rules.proofs.Keeps.{WholeIf, answered-whole, good-written, good-screened}
+use Rattle.rules.proofs.Keeps.{good-written, good-screened}
 use Rattle.order.specs.Log.{Event, write, screen, accepts, Seen, seen, Aligned}
 use Rattle.order.specs.Log as log
 use Rattle.order.specs.Blocks.{Called, calledWrite, calledScreen, writtenBlock, seenBlock, calls}
@@ -28,6 +28,7 @@ use Rattle.view.specs.Drawn.{leaves}
 use Rattle.view.proofs.Refusals.{answers}
 use Rattle.unit.specs.Calls.{counted, writeAnswer, writeBlock, writeCommand, screenAnswer, screenBlock}
 use Rattle.unit.specs.Together.{Done, doneWrite, doneScreen, performed}
+use Rattle.unit.proofs.Writes.{length-handed, answer-whole}
 
 -- ---- one call
 
@@ -74,12 +75,7 @@ written-valid b v k = good-valid (written (load b) v) (good-written (load b) v (
 
 -- a command leaves the buffer's length
 handed-long : (b : List ℕ) (v : ℕ) (buffer : List ℕ) → valid b ≡ true → storeBytes ≤ length buffer → length (handed (answer (load b) v) buffer) ≡ length buffer
-unfolding answer
-handed-long b v buffer k h = go _ (answered-whole (load b .port) v (valid-good b k .port))
-  where
-    go : (o : Option (List ℕ)) → WholeIf o → length (handed o buffer) ≡ length buffer
-    go none w = unfold handed in refl
-    go (some d) w = unfold handed in simp (length-append, length-drop) (omega (arith, w .most))
+handed-long b v buffer k h = length-handed (answer (load b) v) buffer (answer-whole (load b) v (valid-good b k)) h
 
 -- ---- a whole log
 

@@ -1,5 +1,5 @@
 -- `hex::spell` meets its contract: after i turns the first i bytes are spelled out.
-use Prim.Native.Nat.{_+_, _-_, _*_, _≤_}
+use Prim.Native.Nat.{_-_, _*_, _≤_}
 use mathlib.Core.Path.{_≡_, sym, _∙_}
 use native.Mathlib.Omega.{arith}
 use lib.ListN.{length, take, take-append-drop}

@@ -1,9 +1,8 @@
 -- `hex::spell_byte` meets its contract: the shift and the mask are the quotient and the rest by 16, and both digits are put in place.
-use Prim.Native.Nat.{_+_, _<_}
-use mathlib.Core.Path.{_≡_, ap, _∙_}
+use mathlib.Core.Path.{ap, _∙_}
 use native.Mathlib.Omega.{arith}
 use lib.Bits.{and-mask, mask-lt}
-use lib.ListN.{length, length-set}
+use lib.ListN.{length-set}
 use Rattle.hex.specs.Hex.{capital}
 use Rattle.hex.proofs.Writing.{byte-put}
 use Rattle.hex.proofs.spell_byte.Statement.{statement}

@@ -1,5 +1,5 @@
 -- `hex::spells` meets its contract: all digits passed are below 16 exactly if their OR is, and an odd number of them spells nothing.
-use Prim.Native.Nat.{_+_, _-_, _*_, _/_, _≤_}
+use Prim.Native.Nat.{_-_, _/_, _≤_}
 use mathlib.Core.Bool.{_&&_}
 use mathlib.Core.Path.{_≡_, refl, sym, _∙_}
 use native.Mathlib.Omega.{arith}

@@ -1,8 +1,7 @@
 -- `line::parse` meets its contract: the kind tells the form, and the digits past the first two are decoded.
-use Prim.Native.Nat.{_+_, _-_, _*_, _/_, _<_, _≤_}
-use mathlib.Core.Path.{_≡_, sym, _∙_}
+use Prim.Native.Nat.{_-_, _≤_}
 use native.Mathlib.Omega.{arith}
-use lib.ListN.{length, take, drop, length-take, length-drop}
+use lib.ListN.{length, drop, length-take, length-drop}
 use Rattle.hex.specs.Hex.{spelled}
 use Rattle.parts.specs.Parts.{captureBytes}
 use Rattle.line.proofs.Form.{Body}

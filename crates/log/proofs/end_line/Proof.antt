@@ -5,7 +5,7 @@ use mathlib.Core.List.{[]}
 use Prim.Native.Nat.{_-_}
 use native.Mathlib.Omega.{arith}
 use Rattle.log.specs.Steps.{desk}
-use Rattle.log.proofs.Coded.{ended-long, parsed-refused, parsed-writes, parsed-screen, bytes-long}
+use Rattle.log.proofs.Coded.{ended-long, parsed-refused, parsed-writes, parsed-screen}
 use borrow.Author.Needs.{needs}
 use Rattle.log.proofs.end_line.Statement.{statement}
 use Rattle.log.proofs.end_line.Tie as tie

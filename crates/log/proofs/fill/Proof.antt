@@ -1,7 +1,6 @@
 -- A turn is a step; what is left falls with it.
 use denote.Ref.{now}
 use mathlib.Core.Path.{_≡_, refl, sym, ap, _∙_}
-use mathlib.Core.Bool.{true}
 use native.Mathlib.Omega.{arith}
 use lib.ListN.{length}
 use Rattle.log.specs.Steps.{desk, left, goesOn}

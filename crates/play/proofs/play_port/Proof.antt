@@ -1,8 +1,6 @@
 -- The port's bytes out of the block, a run over them, and back.
 use denote.Ref.{now}
 use mathlib.Core.Path.{_∙_, ap}
-use mathlib.Core.List.{List}
-use Prim.Native.Nat.{ℕ}
 use Rattle.run.specs.Run.{Ended}
 use Rattle.port.specs.Bytes.{handed}
 use Rattle.play.specs.Play.{commandOf}

@@ -1,84 +1,56 @@
--- By whether a command is complete: then its bytes go on, and the store is cleared.
+-- What the write completed, told by its packets, is handed over (`done-handed`).
 use borrow.Author.Needs.{needs}
-use mathlib.Core.Path.{_≡_, sym, ap, _∙_}
-use Prim.Native.Nat.{ℕ, _*_, _-_}
-use native.Mathlib.Omega.{arith}
+use mathlib.Core.List.{List}
+use mathlib.Core.Option.{Option}
+use mathlib.Core.Path.{ap, _∙_, subst⁻¹}
+use Prim.Native.Nat.{ℕ, _<_}
 use denote.Ref.{now}
-use lib.ListN.{length-take, replicate, length}
-use Rattle.parts.specs.Parts.{storeBytes}
+use lib.ListN.{length}
 use Rattle.receiver.proofs.Sound.{length-filed}
 use Rattle.receiver.specs.Receive.{words}
-use Rattle.receiver.specs.Store.{packetsOf, filed}
-use Rattle.port.proofs.Steps.{front-put, none-complete, one-complete, few-packets}
+use Rattle.receiver.specs.Store.{filed}
+use Rattle.run.proofs.Hears.{few-packets}
+use Rattle.port.proofs.Steps.{done-handed}
+use Rattle.port.specs.Bytes.{handed, taken, settled}
 use Rattle.port.proofs.complete.Statement.{statement}
 use Rattle.port.proofs.complete.Tie as tie
 
 file-requires : tie.Need-file-requires
 file-requires c κs = search needs
 
+hand-over-requires : tie.Need-hand-over-requires
+hand-over-requires c κs =
+    let start = c .before .before .before .before .before .before .before .before in
+    let f = c .before .before .before .before .file in
+    let d = start .args .w .done in (
+      subst⁻¹ (λ (n : ℕ). n < 8) (f .ensures .0) (few-packets d (start .pre .0)),
+      (
+        ap length (f .ensures .1) ∙ length-filed d (words (start .args .lo) (start .args .hi)) (now (start .args .store)) (start .pre .0) (start .pre .1 .0),
+        start .pre .1 .1,
+      ),
+    )
+
 same-length : tie.Need-same-length
 same-length c = search needs
-
-returns : tie.Need-returns
-returns c = let z = sym (c .before .before .before .file .ensures .0) ∙ c .if1 .taken in
-    let n = none-complete (c .before .before .before .before .before .before .before .args .w .done) (filed (c .before .before .before .before .before .before .before .args .w .done) (words (c .before .before .before .before .before .before .before .args .lo) (c .before .before .before .before .before .before .before .args .hi)) (now (c .before .before .before .before .before .before .before .args .store))) (now (c .before .before .before .before .before .before .before .args .command)) (c .before .before .before .before .before .before .before .pre .0) z in
-    (sym z, (c .before .before .before .file .ensures .1 ∙ n .0, n .1))
-
-wide-requires : tie.Need-wide-requires
-wide-requires c κs = search needs
-
-mul-end : tie.Need-mul-end
-mul-end c = search needs
-
-sub-put : tie.Need-sub-put
-sub-put c = search needs
-
-part-put-start : tie.Need-part-put-start
-part-put-start c = search needs
-
-part-put-end : tie.Need-part-put-end
-part-put-end c = omega (arith, c .before .before .wide .ensures .0, c .before .before .before .before .before .before .file .ensures .0, few-packets (c .before .before .before .before .before .before .before .before .before .before .args .w .done) (c .before .before .before .before .before .before .before .before .before .before .pre .0), ap length (c .before .before .before .before .before .before .file .ensures .1) ∙ length-filed (c .before .before .before .before .before .before .before .before .before .before .args .w .done) (words (c .before .before .before .before .before .before .before .before .before .before .args .lo) (c .before .before .before .before .before .before .before .before .before .before .args .hi)) (now (c .before .before .before .before .before .before .before .before .before .before .args .store)) (c .before .before .before .before .before .before .before .before .before .before .pre .0) (c .before .before .before .before .before .before .before .before .before .before .pre .1 .0))
-
-put-requires : tie.Need-put-requires
-put-requires c κs = simp length-take (omega (arith, c .before .before .before .wide .ensures .0, c .before .before .before .before .before .before .before .file .ensures .0, few-packets (c .before .before .before .before .before .before .before .before .before .before .before .args .w .done) (c .before .before .before .before .before .before .before .before .before .before .before .pre .0), c .before .before .before .before .before .before .before .before .before .before .before .pre .1 .1))
-
-clear-requires : tie.Need-clear-requires
-clear-requires c κs = search needs
 
 same-length-2 : tie.Need-same-length-2
 same-length-2 c = search needs
 
-same-length-3 : tie.Need-same-length-3
-same-length-3 c = search needs
-
-returns-2 : tie.Need-returns-2
-returns-2 c = let d = c .before .before .before .before .before .before .before .before .before .before .before .before .before .before .before .before .before .before .args .w .done in
-    let s = filed d (words (c .before .before .before .before .before .before .before .before .before .before .before .before .before .before .before .before .before .before .args .lo) (c .before .before .before .before .before .before .before .before .before .before .before .before .before .before .before .before .before .before .args .hi)) (now (c .before .before .before .before .before .before .before .before .before .before .before .before .before .before .before .before .before .before .args .store)) in
-    let l : length s ≡ storeBytes = length-filed d (words (c .before .before .before .before .before .before .before .before .before .before .before .before .before .before .before .before .before .before .args .lo) (c .before .before .before .before .before .before .before .before .before .before .before .before .before .before .before .before .before .before .args .hi)) (now (c .before .before .before .before .before .before .before .before .before .before .before .before .before .before .before .before .before .before .args .store)) (c .before .before .before .before .before .before .before .before .before .before .before .before .before .before .before .before .before .before .pre .0) (c .before .before .before .before .before .before .before .before .before .before .before .before .before .before .before .before .before .before .pre .1 .0) in
-    let few = few-packets d (c .before .before .before .before .before .before .before .before .before .before .before .before .before .before .before .before .before .before .pre .0) in
-    let o = one-complete d s (now (c .before .before .before .before .before .before .before .before .before .before .before .before .before .before .before .before .before .before .args .command)) (c .before .before .before .before .before .before .before .before .before .before .before .before .before .before .before .before .before .before .pre .0) l (λ z. c .before .before .before .before .before .before .before .before .before .before .before .if1 .left (c .before .before .before .before .before .before .before .before .before .before .before .before .before .before .file .ensures .0 ∙ z)) in
-    let e : 16 * c .before .before .before .before .before .before .before .before .before .before .wide .result - 0 ≡ 16 * packetsOf d = omega (arith, c .before .before .before .before .before .before .before .before .before .before .wide .ensures .0, c .before .before .before .before .before .before .before .before .before .before .before .before .before .before .file .ensures .0) in (
-      c .before .before .before .before .before .before .before .before .before .before .before .before .before .before .file .ensures .0,
+returns : tie.Need-returns
+returns c =
+    let start = c .before .before .before .before .before .before .before .before .before .before .before .before .before in
+    let f = c .before .before .before .before .before .before .before .before .before .file in
+    let h = c .before .before .before .before .hand-over in
+    let d = start .args .w .done in
+    let o = done-handed d (filed d (words (start .args .lo) (start .args .hi)) (now (start .args .store))) (start .pre .0) in
+    let buffer = now (start .args .command) in (
+      f .ensures .0,
       (
-        c .before .before .clear .ensures ∙ ap (λ (k : ℕ). replicate k 0) (ap length (c .before .before .before .before .before .before .before .before .before .before .before .before .before .before .file .ensures .1) ∙ l) ∙ o .0,
-        c .before .before .before .before .before .before .put .ensures ∙ front-put _ (packetsOf d) _ s (now (c .before .before .before .before .before .before .before .before .before .before .before .before .before .before .before .before .before .before .args .command)) e (c .before .before .before .before .before .before .before .before .before .before .before .before .before .before .file .ensures .1) (omega arith) ∙ o .1,
+        h .ensures .0 ∙ (λ t. settled (f .ensures .0 t) (f .ensures .1 t)) ∙ o .0,
+        h .ensures .1 ∙ (λ t. handed (taken (f .ensures .0 t) (f .ensures .1 t)) buffer) ∙ ap (λ (l : Option (List ℕ)). handed l buffer) (o .1),
       ),
     )
 
 pub complete-spec : {M : Type 1} → statement M
 complete-spec =
-    tie.close
-    (tie.spec
-    file-requires
-    same-length
-    returns
-    wide-requires
-    mul-end
-    sub-put
-    part-put-start
-    part-put-end
-    put-requires
-    clear-requires
-    same-length-2
-    same-length-3
-    returns-2)
+    tie.close (tie.spec file-requires hand-over-requires same-length same-length-2 returns)

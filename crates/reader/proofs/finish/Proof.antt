@@ -1,12 +1,8 @@
 -- One LF at most.
 use borrow.Author.Needs.{needs}
-use denote.Ref.{now}
-use mathlib.Core.Path.{_≡_, refl, sym, ap, _∙_}
-use Prim.Native.Nat.{ℕ, _+_, _*_, _-_, _≤_}
+use Prim.Native.Nat.{_-_}
 use native.Mathlib.Omega.{arith}
-use lib.ListN.{length, take, length-take}
-use Rattle.log.specs.Steps.{Fit, desk}
-use Rattle.reader.specs.Fed.{Sized, Kept}
+use lib.ListN.{length-take}
 use Rattle.reader.proofs.Feeding.{last-short, kept-more}
 use borrow.Author.Needs.{needs}
 use Rattle.reader.proofs.finish.Statement.{statement}

@@ -1,10 +1,10 @@
 -- The turns are counted, so that lines are.
 use borrow.Author.Needs.{needs}
 use denote.Ref.{now}
-use mathlib.Core.Path.{_≡_, refl, sym, ap, _∙_}
-use Prim.Native.Nat.{ℕ, _+_, _*_, _-_, _≤_}
+use mathlib.Core.Path.{_≡_, refl, ap, _∙_}
+use Prim.Native.Nat.{_+_, _*_, _-_, _≤_}
 use native.Mathlib.Omega.{arith}
-use lib.ListN.{length, take, length-take}
+use lib.ListN.{length}
 use Rattle.log.specs.Steps.{Fit, desk}
 use Rattle.reader.specs.Fed.{Sized, chunkBytes, outBytes}
 use Rattle.log.specs.declared.Reading.{Reading}

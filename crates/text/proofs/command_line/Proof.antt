@@ -1,5 +1,5 @@
 -- `text::command_line` meets its contract: the bytes are spelled out, and LF is put behind them.
-use mathlib.Core.Path.{_≡_, sym, _∙_}
+use mathlib.Core.Path.{sym}
 use native.Mathlib.Omega.{arith}
 use Rattle.text.proofs.Printed.{length-hexLine, command-put}
 use borrow.Author.Needs.{needs}

@@ -1,7 +1,6 @@
 -- `text::refusal_of` meets its contract: three parts, each behind the one before it.
-use mathlib.Core.Path.{_≡_, sym, _∙_}
+use mathlib.Core.Path.{sym}
 use native.Mathlib.Omega.{arith}
-use lib.ListN.{length}
 use Rattle.text.proofs.Printed.{length-refusal, refusal-put}
 use borrow.Author.Needs.{needs}
 use Rattle.text.proofs.refusal_of.Statement.{statement}

@@ -1,5 +1,4 @@
 -- `text::spell_word` meets its contract: the high byte's digits, then the low one's.
-use mathlib.Core.Path.{_≡_, _∙_}
 use native.Mathlib.Omega.{arith}
 use Rattle.text.proofs.Printed.{word-put}
 use borrow.Author.Needs.{needs}

@@ -1,5 +1,5 @@
 -- `unit::write` meets its contract: the port is stepped, and the command that this completed is carried out on a block that is valid again.
-use mathlib.Core.Path.{refl, sym, _∙_}
+use mathlib.Core.Path.{sym, _∙_}
 use borrow.Author.Needs.{needs}
 use Rattle.layout.specs.Block.{load}
 use Rattle.layout.proofs.Goods.{valid-good}
@@ -47,7 +47,7 @@ returns-2 c =
     let k = said (load (start .args .block .now)) (start .args .value) (w .result) (start .args .command .now) _ (valid-good _ (start .pre .0 .tested)) (w .ensures .0) (c .before .before .before .before .before .if1 .left) (w .ensures .1 .1) in (
       w .ensures .0,
       (
-        carried-out _ _ _ _ (start .args .value) (w .result) _ (start .pre .0) (w .ensures .1 .0) k refl (c .before .before .carry .ensures),
+        carried-out _ _ _ (start .args .value) (w .result) _ (start .pre .0) (w .ensures .1 .0) k (c .before .before .carry .ensures),
         w .ensures .1 .1,
       ),
     )

@@ -3,7 +3,6 @@ use borrow.Author.Needs.{needs}
 use borrow.Author.Tests.{eq-eqb, ne-eqb, le-leb, lt-leb, lt-ltb, le-ltb}
 use mathlib.Core.Path.{sym, _∙_, ap}
 use Prim.Native.Nat.{_*_}
-use native.Mathlib.Omega.{arith}
 use denote.Ref.{now}
 use lib.Dec.{lit<}
 use lib.ListN.{getD}
@@ -68,7 +67,7 @@ all-zero-requires c κs = search needs
 returns-5 : tie.Need-returns-5
 unfolding later load
 returns-5 c = rw (le-leb _ _ (c .before .before .before .before .before .before .before .before .if1 .left), lt-ltb _ _ (c .before .before .before .before .before .before .before .if2 .left), le-leb _ _ (c .before .before .before .before .before .before .if3 .left), ap countOf (getD-part storeAt storeBytes (now (c .before .before .before .before .before .before .before .before .before .before .before .before .args .block)) 0 (lit< tt)) ∙ sym (c .before .before .before .before .packet-count .ensures), eq-eqb _ _ (c .before .before .before .if4 .left))
-    (c .all-zero .ensures ∙ rw (c .before .before .wide .ensures .0) (ap zeros (drop-part (now (c .before .before .before .before .before .before .before .before .before .before .before .before .args .block)) storeAt storeBytes (16 * getD (now (c .before .before .before .before .before .before .before .before .before .before .before .before .args .block)) 7 0) (omega arith) (omega arith))))
+    (c .all-zero .ensures ∙ rw (c .before .before .wide .ensures .0) (ap zeros (drop-part (now (c .before .before .before .before .before .before .before .before .before .before .before .before .args .block)) storeAt storeBytes (16 * getD (now (c .before .before .before .before .before .before .before .before .before .before .before .before .args .block)) 7 0))))
 
 pub some-in-spec : {M : Type 1} → statement M
 some-in-spec =

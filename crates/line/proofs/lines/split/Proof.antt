@@ -1,8 +1,6 @@
 -- `line::lines::split` meets its contract: what comes up to the next LF is copied behind what is held, if all of it has room.
-use Prim.Native.Nat.{_+_, _-_, _<_, _≤_}
-use mathlib.Core.Path.{_≡_, _∙_}
+use Prim.Native.Nat.{_-_}
 use native.Mathlib.Omega.{arith}
-use lib.ListN.{length}
 use Rattle.line.proofs.Splitting.{lf-found, split-long, split-full, split-copied}
 use borrow.Author.Needs.{needs}
 use Rattle.line.proofs.lines.split.Statement.{statement}

@@ -47,12 +47,9 @@ returns c =
     front-of (x .command .now) (x .out .now) _ (260 * n .result - 0) (p .0 .0) (p .0 .1) (c .before .before .before .before .before .before .before .before .before .encode .ensures .output)
     (omega (arith, n .ensures))
     in
-    let k =
     comes-back (portOf (x .rx) (x .lines) (x .store .now)) (x .command .now) _ (x .mask) (x .lines .index)
     (endedOf (r .result) (r .last .1 .1 .1 .1 .0)) (p .0 .0) (bytes-of (x .command .now) (λ i. c .before .before .before .before .before .before .before .before .before .before .before .before .before .shared-slice-known .given i .fits)) (p .1 .0) (p .1 .1) w
     (r .ensures)
-    in
-    record { complete = k .complete; unchanged = k .unchanged; at-rest = k .at-rest }
 
 pub send-spec : {M : Type 1} → statement M
 send-spec =

@@ -1,13 +1,12 @@
 -- By whether a command is complete: then its bytes go on, and the store is cleared.
 use mathlib.Core.Path.{_∙_}
-use native.Mathlib.Omega.{arith}
+use native.Mathlib.Nat.{sub-zero}
 use denote.Ref.{now}
-use Prim.Native.Nat.{_*_, _-_}
-use lib.ListN.{length}
-use Rattle.play.proofs.Plays.{none-over, one-over}
+use Prim.Native.Nat.{_-_}
+use Rattle.port.proofs.Steps.{none-over, one-settled, one-handed}
 use borrow.Author.Needs.{needs}
-use Rattle.play.proofs.hand_over.Statement.{statement}
-use Rattle.play.proofs.hand_over.Tie as tie
+use Rattle.port.proofs.hand_over.Statement.{statement}
+use Rattle.port.proofs.hand_over.Tie as tie
 
 returns : tie.Need-returns
 returns c = none-over (c .before .before .before .args .packets) _ _ (c .if1 .taken)
@@ -42,8 +41,10 @@ same-length-2 c = search needs
 returns-2 : tie.Need-returns-2
 returns-2 c =
     let start = c .before .before .before .before .before .before .before .before .before .before .before .before .before .before in
-    let o = one-over (start .args .packets) (16 * c .before .before .before .before .before .before .before .before .before .before .wide .result - 0) (length (now (start .args .store))) (now (start .args .store)) (now (start .args .command)) (c .before .before .before .before .before .before .before .before .before .before .before .if1 .left) (start .pre .0) (start .pre .1 .0) (omega (arith, c .before .before .before .before .before .before .before .before .before .before .wide .ensures .0)) (start .pre .1 .0) in
-    (c .before .before .clear .ensures ∙ o .0, c .before .before .before .before .before .before .put .ensures ∙ o .1)
+    let some-in = c .before .before .before .before .before .before .before .before .before .before .before .if1 .left in (
+      c .before .before .clear .ensures ∙ one-settled (start .args .packets) _ (now (start .args .store)) some-in (start .pre .1 .0),
+      c .before .before .before .before .before .before .put .ensures ∙ rw (c .before .before .before .before .before .before .before .before .before .before .wide .ensures .0, sub-zero) (one-handed (start .args .packets) (now (start .args .store)) (now (start .args .command)) some-in),
+    )
 
 pub hand-over-spec : {M : Type 1} → statement M
 hand-over-spec =
