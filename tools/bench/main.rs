@@ -1,10 +1,12 @@
-//! Times jobs of the port beside the same jobs of the Rust. Each pair is run in turns, so that a busy or slow moment meets
-//! both, and the best time of each counts. The answers are compared before anything is timed.
+//! Times jobs of the port beside the same jobs of the Rust. In a turn each side runs once, one after the other, so that a busy or
+//! slow moment meets both. A round has several turns and tells one ratio, of the best time of each side; the middle one of the
+//! rounds' ratios counts, and the least and the greatest show how far to trust it. Answers are compared before anything is timed.
 
 // of tools/oracle, beside which `run` puts this: its parts stand ready for every job
 #![allow(dead_code, unused_imports)]
 
 mod block;
+mod driver;
 mod event;
 mod generate;
 mod jobs;
@@ -13,48 +15,77 @@ mod rng;
 mod shrink;
 mod valid;
 
-use std::time::{Duration, Instant};
+use std::hint::black_box;
+use std::process::exit;
+use std::time::Instant;
 
-/// How often each side has its turn.
-const TURNS: usize = 25;
+const ROUNDS: usize = 15;
+const TURNS: usize = 15;
 
-/// What a job gives: its name, what the ratio may be at most, and a turn of each side, which tells the time of one run.
+/// A side's turn, which tells the time of one run in microseconds.
+pub type Turn = Box<dyn FnMut() -> f64>;
+
+/// What a job gives: its name, what the ratio may be at most, and the turns of both sides.
 pub struct Job {
     pub name: &'static str,
     pub limit: f64,
-    pub port: Box<dyn FnMut() -> Duration>,
-    pub rust: Box<dyn FnMut() -> Duration>,
+    pub port: Turn,
+    pub rust: Turn,
 }
 
 /// The time of one of `n` runs.
-pub fn each(n: usize, mut run: impl FnMut(usize)) -> Duration {
+pub fn each<T>(n: usize, mut run: impl FnMut(usize) -> T) -> f64 {
     let start = Instant::now();
-    (0..n).for_each(&mut run);
-    start.elapsed() / n as u32
+    (0..n).for_each(|i| drop(black_box(run(i))));
+    start.elapsed().as_nanos() as f64 / 1000.0 / n as f64
 }
 
 fn main() {
     let asked: Vec<String> = std::env::args().skip(1).collect();
-    println!("| job | the port, us | the Rust, us | ratio | at most |");
-    println!("|---|---|---|---|---|");
+    println!("| job | the port, us | the Rust, us | ratio | least to greatest | at most |");
+    println!("|---|---|---|---|---|---|");
+    let mut missed = 0;
     for mut job in jobs::all() {
-        if !asked.is_empty() && !asked.iter().any(|a| job.name.starts_with(a.as_str())) {
-            continue;
+        if asked.is_empty() || asked.iter().any(|a| job.name.starts_with(a.as_str())) {
+            missed += usize::from(!measure(&mut job));
         }
-        let (mut port, mut rust) = (Duration::MAX, Duration::MAX);
-        for _ in 0..TURNS {
-            port = port.min((job.port)());
-            rust = rust.min((job.rust)());
-        }
-        let us = |d: Duration| d.as_nanos() as f64 / 1000.0;
-        let ratio = us(port) / us(rust);
-        let verdict = if ratio <= job.limit { "" } else { " MISSED" };
-        println!(
-            "| {} | {:.2} | {:.2} | {ratio:.2} | {:.2}{verdict} |",
-            job.name,
-            us(port),
-            us(rust),
-            job.limit
-        );
     }
+    if missed > 0 {
+        println!("\n{missed} MISSED");
+        exit(1);
+    }
+}
+
+/// Prints the job's line, and tells whether its limit is held.
+fn measure(job: &mut Job) -> bool {
+    let rounds: Vec<[f64; 3]> = (0..ROUNDS).map(|_| round(job)).collect();
+    let [port, rust, ratio] = [0, 1, 2].map(|i| {
+        let mut column: Vec<f64> = rounds.iter().map(|r| r[i]).collect();
+        column.sort_by(f64::total_cmp);
+        column
+    });
+    let middle = ROUNDS / 2;
+    let held = ratio[middle] <= job.limit;
+    println!(
+        "| {} | {:.2} | {:.2} | {:.2} | {:.2} to {:.2} | {:.2}{} |",
+        job.name,
+        port[middle],
+        rust[middle],
+        ratio[middle],
+        ratio[0],
+        ratio[ROUNDS - 1],
+        job.limit,
+        if held { "" } else { " MISSED" }
+    );
+    held
+}
+
+/// The best time of each side, and their ratio.
+fn round(job: &mut Job) -> [f64; 3] {
+    let (mut port, mut rust) = (f64::MAX, f64::MAX);
+    for _ in 0..TURNS {
+        port = port.min((job.port)());
+        rust = rust.min((job.rust)());
+    }
+    [port, rust, port / rust]
 }

@@ -4,12 +4,13 @@
 
 use crate::block::*;
 use gb::ppu::screen::Screen;
+use gb::ppu::types::palette::PaletteIndex;
 pub use gb::sgb::BorderMapEntry;
 use gb::sgb::post_boot as door;
 use gb::sgb::{Rgb555, Sgb};
 use gb::state::{StateRecord, StateValue};
 
-pub struct Oracle(Sgb);
+pub struct Oracle(pub Sgb);
 
 /// The fields of the Rust's saved state that are a byte of the block, and those that are a flag.
 const BYTES: [(&str, usize); 7] = [
@@ -97,10 +98,7 @@ impl Oracle {
     /// The block that describes the Rust's unit.
     pub fn save(&self) -> Vec<u8> {
         let mut block = vec![0; LEN];
-        let record = door::write_state(&self.0);
-        for (name, at) in BYTES.into_iter().chain(FLAGS).chain(PENDING) {
-            block[at] = byte(&record, name).unwrap_or(0);
-        }
+        block[..SPARE.start].copy_from_slice(&head(&self.0));
         for (name, data) in door::capture_memory(&self.0) {
             if let Some((_, part)) = PLAIN.into_iter().find(|(n, _)| *n == name) {
                 block[part].copy_from_slice(&data);
@@ -110,10 +108,7 @@ impl Oracle {
                 match name {
                     "sgb_packets" => block[STORE][..data.len()].copy_from_slice(&data),
                     "sgb_preset" => block[PRESET].copy_from_slice(&data),
-                    "sgb_frozen_capture" => {
-                        block[FROZEN_PRESENT] = 1;
-                        block[FROZEN].copy_from_slice(&pack(&data));
-                    }
+                    "sgb_frozen_capture" => block[FROZEN].copy_from_slice(&pack(&data)),
                     _ => panic!("{name} has no place in the block"),
                 }
             }
@@ -181,6 +176,17 @@ impl Oracle {
     }
 }
 
+/// The block's first 13 bytes.
+pub fn head(sgb: &Sgb) -> [u8; SPARE.start] {
+    let mut head = [0; SPARE.start];
+    let record = door::write_state(sgb);
+    for (name, at) in BYTES.into_iter().chain(FLAGS).chain(PENDING) {
+        head[at] = byte(&record, name).unwrap_or(0);
+    }
+    head[FROZEN_PRESENT] = u8::from(door::is_frozen(sgb));
+    head
+}
+
 fn byte(record: &StateRecord, name: &str) -> Option<u8> {
     match record.get(name)? {
         StateValue::Int(v) => Some(*v as u8),
@@ -189,10 +195,20 @@ fn byte(record: &StateRecord, name: &str) -> Option<u8> {
     }
 }
 
-fn screen_of(packed: &[u8]) -> Screen {
+/// The screen as the packed shades have it.
+pub fn draw(screen: &mut Screen, packed: &[u8]) {
     assert_eq!(packed.len(), SCREEN_LEN);
+    let rows = screen.front_mut().pixels.iter_mut();
+    for (row, bytes) in rows.zip(packed.chunks_exact(40)) {
+        for (four, b) in row.chunks_exact_mut(4).zip(bytes) {
+            four.copy_from_slice(&[b >> 6, b >> 4 & 3, b >> 2 & 3, b & 3].map(PaletteIndex));
+        }
+    }
+}
+
+fn screen_of(packed: &[u8]) -> Screen {
     let mut screen = Screen::default();
-    screen.restore_front(&unpack(packed));
+    draw(&mut screen, packed);
     screen
 }
 

@@ -170,7 +170,7 @@ def pieces(t, p, few=False):
     plain = hexed(b"\x01" + pulses(MASK_BLACK)) + b"\n01003020\n01003010"
     jobs = [(small, n, "replay") for n in (1, 2, 3, 4, 5, 7, 8, 11, 13, 16, 31, 61, 127, 255, 509)]
     jobs += [(plain, n, "plate") for n in (1, 2, 3, 7, 64)] + [(small, 1, "plate")]
-    for n in () if few else (997, 4093, 4096, 8192, 11521, 11522, 11523, 11524, 65535, 65536):
+    for n in () if few else (997, 2047, 2048, 4096, 8192, 11521, 11522, 11523, 11524, 65535, 65536):
         jobs += [(dusk, n, "replay"), (dusk, n, "plate")]
     for log, n, name in jobs:
         t.same(f"{name}: {len(log)} bytes, {n} at a time", p.in_pieces(name, cut(log, n)), p.told(name, log).out)

@@ -67,7 +67,7 @@ pub extern "C" fn probe_screened(countdown: u8, kind: u8) -> u32 {
 }
 
 // A kind that landed, or 255.
-fn landed_kind(landed: Landed) -> u8 {
+pub fn landed_kind(landed: Landed) -> u8 {
     match landed {
         Landed::Nothing => 255,
         Landed::Page(transfer) => transfer.number(),

@@ -3,6 +3,7 @@
 mod calls;
 mod drawing;
 mod effects;
+mod jobs;
 mod leaves;
 mod logs;
 mod packets;

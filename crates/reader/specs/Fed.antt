@@ -10,7 +10,7 @@ use Rattle.reader.specs.declared.Fed.{Fed}
 
 -- the bytes of a read, and of the text between two writes
 abbrev pub chunkBytes : ℕ
-chunkBytes = 4096
+chunkBytes = 2048
 
 abbrev pub outBytes : ℕ
 outBytes = 2048

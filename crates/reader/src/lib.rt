@@ -12,7 +12,7 @@ use libc::STDOUT_FILENO;
 use log::Reading;
 
 // The bytes of a read, and of the text between two writes. Small, since they stand on the stack.
-pub const CHUNK_BYTES: usize = 4096;
+pub const CHUNK_BYTES: usize = 2048;
 
 pub const OUT_BYTES: usize = 2048;
 
@@ -66,7 +66,8 @@ pub fn read_log(
             return f;
         }
     }
-    io::write_all(STDERR_FILENO, b"the input does not end\n");
+    // by the bare call: `io::write_all` holds 4,096 bytes for a write that comes short, and they would stand on the programs' stack
+    libc::write(STDERR_FILENO, b"the input does not end\n");
     Fed {
         reading: reading,
         state: State::Failed,

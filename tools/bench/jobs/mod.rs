@@ -4,11 +4,17 @@ use crate::Job;
 
 mod picture;
 mod screen;
+mod whole;
 mod writes;
 
 pub fn all() -> Vec<Job> {
-    [writes::jobs(), screen::jobs(), picture::jobs()]
-        .into_iter()
-        .flatten()
-        .collect()
+    [
+        writes::jobs(),
+        screen::jobs(),
+        picture::jobs(),
+        whole::jobs(),
+    ]
+    .into_iter()
+    .flatten()
+    .collect()
 }

@@ -1,52 +1,80 @@
-//! A page, and a screen with a landing of each kind. The Rust's screen comes unpacked, as its own ppu has it.
+//! A page; a screen that lands, of each kind; and a screen with no landing. The Rust's screen comes unpacked, a byte a pixel, as its own
+//! ppu has it; the port's is the packed one that a caller lends.
 
 use crate::block::*;
-use crate::generate;
+use crate::oracle::{self, Oracle};
 use crate::rng::Rng;
-use crate::{Job, each};
+use crate::{Job, Turn, each};
 use gb::ppu::screen::Screen;
-use gb::sgb::{Sgb, post_boot};
+use gb::sgb::post_boot as door;
 use std::hint::black_box;
 
 unsafe extern "C" {
     fn probe_page(out: *mut u8, out_len: usize, screen: *const u8, len: usize);
-    fn probe_land_palettes(part: *mut u8, part_len: usize, screen: *const u8, len: usize);
-    fn probe_land_files(part: *mut u8, part_len: usize, screen: *const u8, len: usize);
-    fn probe_land_tiles(part: *mut u8, part_len: usize, screen: *const u8, len: usize);
-    fn probe_land_map(part: *mut u8, part_len: usize, screen: *const u8, len: usize);
-    safe fn probe_screened(countdown: u8, kind: u8) -> u32;
+    fn probe_show(block: *mut u8, len: usize, screen: *const u8, screen_len: usize) -> u8;
+    fn probe_update_screen(block: *mut u8, len: usize, screen: *const u8, screen_len: usize)
+    -> u32;
 }
 
-type Land = unsafe extern "C" fn(*mut u8, usize, *const u8, usize);
+/// A screen on a block that is known to be valid, as in a log, or by the public call, which checks the block first.
+#[derive(Clone, Copy)]
+enum By {
+    Log,
+    Call,
+}
+
+/// What is pending when the screen comes, and whether the picture is frozen.
+#[derive(Clone, Copy)]
+struct Due {
+    countdown: u8,
+    kind: u8,
+    frozen: bool,
+}
 
 pub fn jobs() -> Vec<Job> {
-    let mut jobs = vec![page()];
-    let kinds: [(_, u8, _, Land); 4] = [
-        (
-            "screen, PAL_TRN lands",
-            0x0B,
-            SYSTEM_PALETTES,
-            probe_land_palettes,
+    let due = |countdown, kind| Due {
+        countdown,
+        kind,
+        frozen: false,
+    };
+    let frozen = Due {
+        frozen: true,
+        ..due(0, 0)
+    };
+    vec![
+        page(),
+        job("screen, PAL_TRN lands", 0.3, By::Log, due(1, 0)),
+        job("screen, ATTR_TRN lands", 0.3, By::Log, due(1, 1)),
+        job("screen, CHR_TRN lands, lower", 0.3, By::Log, due(1, 2)),
+        job("screen, CHR_TRN lands, upper", 0.3, By::Log, due(1, 3)),
+        job("screen, PCT_TRN lands", 0.3, By::Log, due(1, 4)),
+        job(
+            "screen, PCT_TRN lands, public call",
+            0.3,
+            By::Call,
+            due(1, 4),
         ),
-        ("screen, ATTR_TRN lands", 0x15, FILES, probe_land_files),
-        (
-            "screen, CHR_TRN lands",
-            0x13,
-            TILES.start..TILES.start + 4096,
-            probe_land_tiles,
+        job("screen, none pending", 0.4, By::Log, due(0, 0)),
+        job("screen, countdown 3 to 2", 0.4, By::Log, due(3, 0)),
+        job(
+            "screen, none pending, public call",
+            0.4,
+            By::Call,
+            due(0, 0),
         ),
-        (
-            "screen, PCT_TRN lands",
-            0x14,
-            BORDER_MAP.start..LEN,
-            probe_land_map,
+        job(
+            "screen, none pending, frozen, public call",
+            0.4,
+            By::Call,
+            frozen,
         ),
-    ];
-    for (name, code, part, land) in kinds {
-        let kind = [0x0B, 0x15, 0x13, 0, 0x14].iter().position(|&c| c == code);
-        jobs.push(landing(name, code, kind.unwrap() as u8, part, land));
-    }
-    jobs
+        job(
+            "screen, countdown 3 to 2, public call",
+            0.4,
+            By::Call,
+            due(3, 0),
+        ),
+    ]
 }
 
 /// Noise, so that no branch can be guessed.
@@ -57,7 +85,7 @@ fn noise() -> Vec<u8> {
 
 fn unpacked(packed: &[u8]) -> Screen {
     let mut screen = Screen::default();
-    screen.restore_front(&unpack(packed));
+    oracle::draw(&mut screen, packed);
     screen
 }
 
@@ -65,70 +93,69 @@ fn page() -> Job {
     let packed = noise();
     let screen = unpacked(&packed);
     let mut out = vec![0; 4096];
-    unsafe { probe_page(out.as_mut_ptr(), 4096, packed.as_ptr(), SCREEN_LEN) };
-    assert!(out == post_boot::screen_to_transfer_data(&screen));
+    let make = |packed: &[u8], out: &mut [u8]| unsafe {
+        probe_page(out.as_mut_ptr(), out.len(), packed.as_ptr(), packed.len());
+    };
+    make(&packed, &mut out);
+    assert!(out == door::screen_to_transfer_data(&screen));
     Job {
         name: "page",
         limit: 0.3,
-        port: Box::new(move || {
-            each(400, |_| unsafe {
-                probe_page(
-                    out.as_mut_ptr(),
-                    4096,
-                    black_box(packed.as_ptr()),
-                    SCREEN_LEN,
-                )
-            })
-        }),
-        rust: Box::new(move || {
-            each(100, |_| {
-                black_box(post_boot::screen_to_transfer_data(black_box(&screen)));
-            })
-        }),
+        port: Box::new(move || each(400, |_| make(black_box(&packed), &mut out))),
+        rust: Box::new(move || each(100, |_| door::screen_to_transfer_data(black_box(&screen)))),
     }
 }
 
-/// The whole of what a screen does when a transfer is due: the capture, the countdown and the landing.
-fn landing(
-    name: &'static str,
-    code: u8,
-    kind: u8,
-    part: std::ops::Range<usize>,
-    land: Land,
-) -> Job {
+fn show(by: By, block: &mut [u8], packed: &[u8]) -> u32 {
+    let (b, s) = (block.as_mut_ptr(), packed.as_ptr());
+    unsafe {
+        match by {
+            By::Log => probe_show(b, block.len(), s, packed.len()).into(),
+            By::Call => probe_update_screen(b, block.len(), s, packed.len()),
+        }
+    }
+}
+
+fn unit(due: Due) -> Vec<u8> {
+    let mut block = post_boot();
+    (block[COUNTDOWN], block[KIND]) = (due.countdown, due.kind);
+    if due.frozen {
+        (block[MASK], block[FROZEN_PRESENT]) = (1, 1);
+        block[FROZEN].copy_from_slice(&noise());
+    }
+    block
+}
+
+fn job(name: &'static str, limit: f64, by: By, due: Due) -> Job {
     let packed = noise();
-    let screen = unpacked(&packed);
-    let mut command = vec![0; 16];
-    command[0] = code << 3 | 1;
-    let writes = generate::encode(&command);
-    let mut block = post_boot_block(kind);
+    let mut block = unit(due);
+    let mut rust = Oracle::load(&block);
+    let landed = rust.screen(&packed).unwrap_or(255);
+    assert_eq!(show(by, &mut block, &packed), landed.into());
+    difference(&block, &rust.save()).unwrap();
     Job {
         name,
-        limit: 0.3,
+        limit,
         port: Box::new(move || {
             each(400, |_| {
-                block[LIVE].copy_from_slice(black_box(&packed));
-                let [_, countdown, left, _] = probe_screened(black_box(1), kind).to_be_bytes();
-                (block[COUNTDOWN], block[KIND]) = (countdown, left);
-                let part = &mut block[part.clone()];
-                unsafe { land(part.as_mut_ptr(), part.len(), packed.as_ptr(), SCREEN_LEN) };
+                (block[COUNTDOWN], block[KIND]) = (due.countdown, due.kind);
+                show(by, &mut block, black_box(&packed))
             })
         }),
-        rust: Box::new(move || {
-            // a unit lands once, so each run has its own, two screens after the command
-            let mut due: Vec<Sgb> = (0..8).map(|_| Sgb::post_boot()).collect();
-            for unit in &mut due {
-                writes.iter().for_each(|&w| drop(unit.write_joypad(w)));
-                unit.update_screen(&screen);
-                unit.update_screen(&screen);
-            }
-            each(due.len(), |i| due[i].update_screen(black_box(&screen)))
-        }),
+        rust: rust_turn(due),
     }
 }
 
-fn post_boot_block(kind: u8) -> Vec<u8> {
-    let mut block = crate::block::post_boot();
-    (block[COUNTDOWN], block[KIND]) = (1, kind);
-    block
+/// A transfer goes on once, so where one is pending each run has a unit of its own; else one unit takes them all.
+fn rust_turn(due: Due) -> Turn {
+    let screen = unpacked(&noise());
+    let mut one = Oracle::load(&unit(due)).0;
+    Box::new(move || {
+        if due.countdown == 0 {
+            return each(100, |_| one.update_screen(black_box(&screen)));
+        }
+        let block = unit(due);
+        let mut units: Vec<_> = (0..8).map(|_| Oracle::load(&block).0).collect();
+        each(units.len(), |i| units[i].update_screen(black_box(&screen)))
+    })
 }

@@ -1,14 +1,25 @@
-//! A log of writes through the receiver: packets of random data, idle polling, and lines at random; by the plain run and by
-//! the fast one. The Rust carries out what it hears, so the commands are SOUND, which it drops.
+//! A log of writes on a unit: packets of random data, idle polling, what the sample sends, and lines at random. The port goes as a log
+//! does, by lines of up to 5,760 writes on a block that is known to be valid. The packets are SOUND, which neither side carries out.
+//! Beside it the plain run, which has the fast one's contract, over a receiver in locals.
 
+use crate::block;
+use crate::driver::{self, Event};
 use crate::generate;
+use crate::jobs::whole::SAMPLE;
+use crate::oracle::Oracle;
 use crate::rng::Rng;
 use crate::{Job, each};
-use gb::sgb::Sgb;
-use std::hint::black_box;
 use std::rc::Rc;
 
 unsafe extern "C" {
+    fn probe_play(
+        block: *mut u8,
+        len: usize,
+        writes: *const u8,
+        writes_len: usize,
+        command: *mut u8,
+        command_len: usize,
+    ) -> u64;
     fn probe_log(fast: u8, log: *const u8, len: usize, store: *mut u8, store_len: usize) -> usize;
 }
 
@@ -23,43 +34,103 @@ pub fn jobs() -> Vec<Job> {
         packets.extend(generate::encode(&sound));
     }
     let polling = [0x20, 0x10, 0x30].repeat(WRITES / 3);
+    let sample = sample_writes();
+    let sample = sample.repeat(WRITES / sample.len());
     let noise = (0..WRITES).map(|_| rng.byte()).collect();
-    [
-        ("writes, packets, plain", 0, 0.4, packets.clone()),
-        ("writes, packets, fast", 1, 0.08, packets),
-        ("writes, idle polling, plain", 0, 0.4, polling.clone()),
-        ("writes, idle polling, fast", 1, 0.4, polling),
-        ("writes, random lines, fast", 1, 1.0, noise),
+    vec![
+        on_a_block("writes, packets", 0.4, packets.clone()),
+        on_a_block("writes, idle polling", 0.4, polling.clone()),
+        on_a_block("writes, the sample's", 0.4, sample),
+        on_a_block("writes, random lines", 1.0, noise),
+        plain_run("writes, packets, plain run", packets),
+        plain_run("writes, idle polling, plain run", polling),
     ]
-    .map(|(name, fast, limit, log)| job(name, fast, limit, log))
-    .into()
 }
 
-fn job(name: &'static str, fast: u8, limit: f64, log: Vec<u8>) -> Job {
-    let log = Rc::new(log);
-    let port = {
-        let log = log.clone();
-        move || {
-            let mut store = [0; 112];
-            unsafe { probe_log(fast, log.as_ptr(), log.len(), store.as_mut_ptr(), 112) }
+fn sample_writes() -> Vec<u8> {
+    let (mut all, mut bytes) = (Vec::new(), Vec::new());
+    for line in SAMPLE.split(|b| *b == b'\n') {
+        if let Some(Event::Writes(writes)) = driver::event(line, &mut bytes) {
+            all.extend(writes);
         }
-    };
-    let rust = move || {
-        let mut sgb = Sgb::post_boot();
-        log.iter().filter_map(|w| sgb.write_joypad(*w)).count()
-    };
-    assert_eq!(port() >> 8, rust());
+    }
+    all
+}
+
+/// All of the writes; how many commands they completed.
+fn play(block: &mut [u8], writes: &[u8]) -> usize {
+    let (mut commands, mut command) = (0, [0; 112]);
+    for line in writes.chunks(5_760) {
+        let mut at = 0;
+        while at < line.len() {
+            let rest = &line[at..];
+            let told = unsafe {
+                probe_play(
+                    block.as_mut_ptr(),
+                    block.len(),
+                    rest.as_ptr(),
+                    rest.len(),
+                    command.as_mut_ptr(),
+                    command.len(),
+                )
+            };
+            at += (told & 0xFFFF_FFFF) as usize;
+            commands += usize::from(told >> 56 != 0);
+        }
+    }
+    commands
+}
+
+fn on_a_block(name: &'static str, limit: f64, writes: Vec<u8>) -> Job {
+    let mut block = block::post_boot();
+    let mut unit = Oracle::post_boot();
+    let count = writes.iter().filter_map(|w| unit.write(*w)).count();
+    assert_eq!(play(&mut block, &writes), count);
+    block::difference(&block, &unit.save()).unwrap();
+    let writes = Rc::new(writes);
     Job {
         name,
         limit,
-        port: Box::new(move || {
-            each(1, |_| {
-                black_box(port());
-            })
-        }),
+        port: {
+            let writes = writes.clone();
+            Box::new(move || each(1, |_| play(&mut block, &writes)))
+        },
         rust: Box::new(move || {
             each(1, |_| {
-                black_box(rust());
+                let commands = writes.iter().filter_map(|w| unit.0.write_joypad(*w));
+                commands.count()
+            })
+        }),
+    }
+}
+
+/// Packets and polling leave the receiver as they find it, so each run begins with a fresh one.
+fn plain_run(name: &'static str, writes: Vec<u8>) -> Job {
+    let writes = Rc::new(writes);
+    let run = |writes: &[u8]| unsafe {
+        let mut store = [0; 112];
+        probe_log(
+            0,
+            writes.as_ptr(),
+            writes.len(),
+            store.as_mut_ptr(),
+            store.len(),
+        )
+    };
+    let mut unit = Oracle::post_boot().0;
+    let count = writes.iter().filter_map(|w| unit.write_joypad(*w)).count();
+    assert_eq!(run(&writes) >> 8, count);
+    Job {
+        name,
+        limit: 1.0,
+        port: {
+            let writes = writes.clone();
+            Box::new(move || each(1, |_| run(&writes)))
+        },
+        rust: Box::new(move || {
+            each(1, |_| {
+                let commands = writes.iter().filter_map(|w| unit.write_joypad(*w));
+                commands.count()
             })
         }),
     }

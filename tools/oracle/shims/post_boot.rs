@@ -36,3 +36,7 @@ pub fn capture_memory(sgb: &Sgb) -> Vec<(&'static str, Vec<u8>)> {
     sgb.capture_memory(&mut memory);
     memory
 }
+
+pub fn is_frozen(sgb: &Sgb) -> bool {
+    sgb.frozen_screen.is_some()
+}

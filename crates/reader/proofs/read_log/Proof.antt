@@ -85,11 +85,11 @@ loop-again c =
       ),
     )
 
-slice-aggregate-write-all : tie.Need-slice-aggregate-write-all Inv-loop μ-loop
-slice-aggregate-write-all c = search needs
+slice-aggregate-write : tie.Need-slice-aggregate-write Inv-loop μ-loop
+slice-aggregate-write c = search needs
 
-write-all-requires : tie.Need-write-all-requires Inv-loop μ-loop
-write-all-requires c κs = tt
+write-requires : tie.Need-write-requires Inv-loop μ-loop
+write-requires c κs = tt
 
 same-length-7 : tie.Need-same-length-7 Inv-loop μ-loop
 same-length-7 c = omega (arith, c .before .before .before .loop .inv .1 .1 .0 .block-long, c .before .before .before .before .before .before .before .before .before .before .before .before .before .before .before .pre .0 .block-long)
@@ -133,8 +133,8 @@ read-log-spec =
     returns
     loop-less
     loop-again
-    slice-aggregate-write-all
-    write-all-requires
+    slice-aggregate-write
+    write-requires
     same-length-7
     same-length-8
     same-length-9

@@ -1,0 +1,64 @@
+-- The sizes are those that were tested.
+use borrow.Author.Tests.{not-false}
+use borrow.Author.Needs.{needs}
+use Rattle.probe.proofs.jobs.probe_plate.Statement.{statement}
+use Rattle.probe.proofs.jobs.probe_plate.Tie as tie
+
+are-sized-requires : tie.Need-are-sized-requires
+are-sized-requires c κs = search needs
+
+returns : tie.Need-returns
+returns c = search needs
+
+returns-2 : tie.Need-returns-2
+returns-2 c = search needs
+
+returns-3 : tie.Need-returns-3
+returns-3 c = search needs
+
+read-log-requires : tie.Need-read-log-requires
+read-log-requires c κs =
+    let s = c .before .before .before .before .before .before .before .before .are-sized .ensures (not-false _ (c .before .before .before .before .before .before .before .if1 .left)) in
+    (record { block-long = s .1 .0; line-long = s .1 .1 .0; bytes-long = s .1 .1 .1 .0; command-long = s .1 .1 .1 .1 }, s .0)
+
+rows-requires : tie.Need-rows-requires
+rows-requires c κs = search needs
+
+same-length : tie.Need-same-length
+same-length c = search needs
+
+same-length-2 : tie.Need-same-length-2
+same-length-2 c = search needs
+
+same-length-3 : tie.Need-same-length-3
+same-length-3 c = search needs
+
+same-length-4 : tie.Need-same-length-4
+same-length-4 c = search needs
+
+same-length-5 : tie.Need-same-length-5
+same-length-5 c = search needs
+
+same-length-6 : tie.Need-same-length-6
+same-length-6 c = search needs
+
+returns-4 : tie.Need-returns-4
+returns-4 c = search needs
+
+pub probe-plate-spec : {M : Type 1} → statement M
+probe-plate-spec =
+    tie.close
+    (tie.spec
+    are-sized-requires
+    returns
+    returns-2
+    returns-3
+    read-log-requires
+    rows-requires
+    same-length
+    same-length-2
+    same-length-3
+    same-length-4
+    same-length-5
+    same-length-6
+    returns-4)

@@ -1,0 +1,191 @@
+-- A turn takes a chunk by a fill; what is left of the input falls with it.
+use denote.Ref.{now}
+use mathlib.Core.Path.{_≡_, refl, sym, ap, _∙_}
+use Prim.Native.Nat.{_+_, _-_, _*_, _≤_, _<_}
+use native.Mathlib.Omega.{arith}
+use borrow.Author.Needs.{needs}
+use lib.ListN.{length, take, drop, length-take, length-drop}
+use Rattle.log.specs.Steps.{desk, left}
+use Rattle.reader.proofs.Feeding.{boot-fit}
+use Rattle.log.specs.declared.Reading.{Reading}
+use Rattle.probe.proofs.Chunks.{Stands, part-is, stands-on, ends-within, left-falls}
+use Rattle.probe.proofs.jobs.read_log.Statement.{statement}
+use Rattle.probe.proofs.jobs.read_log.Tie as tie
+
+abbrev Inv-loop : tie.InvT-loop
+Inv-loop input block₀ line₀ bytes₀ command₀ text₀ keep reading₀ at₀ n₀ block line bytes command text reading at n =
+    Stands (length input) (length text₀) reading (desk block line bytes command) at n
+    × ((length text₀ < 18446744073709551616) × ((length block ≡ length block₀) × ((length line ≡ length line₀) × ((length bytes ≡ length bytes₀) × ((length command ≡ length command₀) × (length text ≡ length text₀))))))
+
+abbrev μ-loop : tie.MeasureT-loop
+μ-loop input block₀ line₀ bytes₀ command₀ text₀ keep reading₀ at₀ n₀ block line bytes command text reading at n = left reading (length input) at
+
+post-boot-requires : tie.Need-post-boot-requires Inv-loop μ-loop
+post-boot-requires c κs = search needs
+
+begin-requires : tie.Need-begin-requires Inv-loop μ-loop
+begin-requires c κs = search needs
+
+loop-holds : tie.Need-loop-holds Inv-loop μ-loop
+loop-holds c =
+    let start = c .before .before .before .before .before .before .before .before .before .before .before in
+    let b = c .before .before .before .post-boot in (
+      record {
+        fit = boot-fit (desk (now (start .args .block)) (now (start .args .line)) (now (start .args .bytes)) (now (start .args .command))) _ _ (start .pre .0) (b .ensures) (c .begin .ensures);
+        within = omega arith;
+        counted = omega (arith, ap (λ (r : Reading). r .number) (c .begin .ensures));
+        roomy = omega arith;
+      },
+      (omega arith, (refl, (refl, (refl, (refl, refl))))),
+    )
+
+sub-goes-on : tie.Need-sub-goes-on Inv-loop μ-loop
+sub-goes-on c = omega (arith, c .loop .inv .0 .roomy, c .loop .inv .1 .1 .1 .1 .1 .1)
+
+goes-on-requires : tie.Need-goes-on-requires Inv-loop μ-loop
+goes-on-requires c κs = tt
+
+sub-chunk-size : tie.Need-sub-chunk-size Inv-loop μ-loop
+sub-chunk-size c = c .before .before .loop .inv .0 .within
+
+chunk-size-requires : tie.Need-chunk-size-requires Inv-loop μ-loop
+chunk-size-requires c κs = omega (arith, c .before .before .before .before .before .before .before .before .before .before .before .before .before .before .pre .1)
+
+add-end : tie.Need-add-end Inv-loop μ-loop
+add-end c = omega (arith, c .chunk-size .ensures .0, c .before .before .before .loop .inv .0 .within, c .before .before .before .before .before .before .before .before .before .before .before .before .before .before .before .pre .1)
+
+sub-fill : tie.Need-sub-fill Inv-loop μ-loop
+sub-fill c = omega arith
+
+part-fill-start : tie.Need-part-fill-start Inv-loop μ-loop
+part-fill-start c = omega (arith, c .before .before .before .before .before .before .before .loop .inv .0 .within)
+
+part-fill-end : tie.Need-part-fill-end Inv-loop μ-loop
+part-fill-end c = omega (arith, c .before .before .before .before .chunk-size .ensures .0, c .before .before .before .before .before .before .before .loop .inv .0 .within)
+
+add-fill : tie.Need-add-fill Inv-loop μ-loop
+add-fill c = omega (arith, (c .before .before .before .before .before .before .before .goes-on .ensures (c .before .before .before .before .before .before .if1 .taken)) .0, c .before .before .before .before .before .before .before .before .loop .inv .0 .roomy, c .before .before .before .before .before .before .before .before .loop .inv .1 .0, c .before .before .before .before .before .before .before .before .loop .inv .1 .1 .1 .1 .1 .1)
+
+sub-fill-2 : tie.Need-sub-fill-2 Inv-loop μ-loop
+sub-fill-2 c = omega arith
+
+part-fill-start-2 : tie.Need-part-fill-start-2 Inv-loop μ-loop
+part-fill-start-2 c = omega (arith, c .before .before .before .before .before .before .before .before .loop .inv .0 .roomy, c .before .before .before .before .before .before .before .before .loop .inv .1 .1 .1 .1 .1 .1)
+
+part-fill-end-2 : tie.Need-part-fill-end-2 Inv-loop μ-loop
+part-fill-end-2 c = omega (arith, (c .before .before .before .before .before .before .before .goes-on .ensures (c .before .before .before .before .before .before .if1 .taken)) .0, c .before .before .before .before .before .before .before .before .loop .inv .0 .roomy, c .before .before .before .before .before .before .before .before .loop .inv .1 .1 .1 .1 .1 .1)
+
+fill-requires : tie.Need-fill-requires Inv-loop μ-loop
+fill-requires c κs =
+    let start = c .before .before .before .before .before .before .before .before .before .before .before .before .before .before .before .before .before .before .before .before .before in
+    let a = c .before .before .before .before .before .before .before .before .before .loop in
+    let k = c .before .before .before .before .before .before .chunk-size .result in
+    let room : a .n + 2048 ≤ length (a .text) = omega (arith, (c .before .before .before .before .before .before .before .before .goes-on .ensures (c .before .before .before .before .before .before .before .if1 .taken)) .0, a .inv .0 .roomy, a .inv .1 .1 .1 .1 .1 .1) in
+    let long : a .at + k ≤ length (now (start .args .input)) = omega (arith, c .before .before .before .before .before .before .chunk-size .ensures .0, a .inv .0 .within) in
+    let is : length (take (a .at + k - a .at) (drop (a .at) (now (start .args .input)))) ≡ k = part-is (now (start .args .input)) (a .at) k long in
+    let out : length (take (a .n + 2048 - a .n) (drop (a .n) (a .text))) ≡ 2048 = part-is (a .text) (a .n) 2048 room in
+    (a .inv .0 .fit, ((omega (arith, is, c .before .before .before .before .before .before .chunk-size .ensures .1 .0, a .inv .0 .counted, a .inv .0 .within, start .pre .1), (omega arith, omega (arith, is, c .before .before .before .before .before .before .chunk-size .ensures .1 .0))), omega (arith, out)))
+
+add-at : tie.Need-add-at Inv-loop μ-loop
+add-at c =
+    let start = c .before .before .before .before .before .before .before .before .before .before .before .before .before .before .before .before .before .before .before .before .before .before .before .before .before .before .before .before .before .before .before .before .before .before in
+    let a = c .before .before .before .before .before .before .before .before .before .before .before .before .before .before .before .before .before .before .before .before .before .before .loop in
+    let k = c .before .before .before .before .before .before .before .before .before .before .before .before .before .before .before .before .before .before .before .chunk-size .result in
+    let room : a .n + 2048 ≤ length (a .text) = omega (arith, (c .before .before .before .before .before .before .before .before .before .before .before .before .before .before .before .before .before .before .before .before .before .goes-on .ensures (c .before .before .before .before .before .before .before .before .before .before .before .before .before .before .before .before .before .before .before .before .if1 .taken)) .0, a .inv .0 .roomy, a .inv .1 .1 .1 .1 .1 .1) in
+    let long : a .at + k ≤ length (now (start .args .input)) = omega (arith, c .before .before .before .before .before .before .before .before .before .before .before .before .before .before .before .before .before .before .before .chunk-size .ensures .0, a .inv .0 .within) in
+    let is : length (take (a .at + k - a .at) (drop (a .at) (now (start .args .input)))) ≡ k = part-is (now (start .args .input)) (a .at) k long in
+    let out : length (take (a .n + 2048 - a .n) (drop (a .n) (a .text))) ≡ 2048 = part-is (a .text) (a .n) 2048 room in
+    let w = ends-within (length (now (start .args .input))) (length (now (start .args .text))) (a .reading) (desk (a .block) (a .line) (a .bytes) (a .command)) (a .at) (a .n) _ _ (c .before .before .before .before .before .before .before .before .before .before .before .before .fill .result) _ _ (a .inv .0) (c .before .before .before .before .before .before .before .before .before .before .before .before .fill .ensures) (omega (arith, is, long)) in
+    omega (arith, w, start .pre .1)
+
+kept-requires : tie.Need-kept-requires Inv-loop μ-loop
+kept-requires c κs = tt
+
+add-n : tie.Need-add-n Inv-loop μ-loop
+add-n c =
+    let start = c .before .before .before .before .before .before .before .before .before .before .before .before .before .before .before .before .before .before .before .before .before .before .before .before .before .before .before .before .before .before .before .before .before .before .before in
+    let a = c .before .before .before .before .before .before .before .before .before .before .before .before .before .before .before .before .before .before .before .before .before .before .before .loop in
+    let k = c .before .before .before .before .before .before .before .before .before .before .before .before .before .before .before .before .before .before .before .before .chunk-size .result in
+    let room : a .n + 2048 ≤ length (a .text) = omega (arith, (c .before .before .before .before .before .before .before .before .before .before .before .before .before .before .before .before .before .before .before .before .before .before .goes-on .ensures (c .before .before .before .before .before .before .before .before .before .before .before .before .before .before .before .before .before .before .before .before .before .if1 .taken)) .0, a .inv .0 .roomy, a .inv .1 .1 .1 .1 .1 .1) in
+    let long : a .at + k ≤ length (now (start .args .input)) = omega (arith, c .before .before .before .before .before .before .before .before .before .before .before .before .before .before .before .before .before .before .before .before .chunk-size .ensures .0, a .inv .0 .within) in
+    let is : length (take (a .at + k - a .at) (drop (a .at) (now (start .args .input)))) ≡ k = part-is (now (start .args .input)) (a .at) k long in
+    let out : length (take (a .n + 2048 - a .n) (drop (a .n) (a .text))) ≡ 2048 = part-is (a .text) (a .n) 2048 room in
+    omega (arith, c .kept .ensures, c .before .before .before .before .before .before .before .before .before .before .before .before .before .fill .ensures .fits, out, room, a .inv .1 .0, a .inv .1 .1 .1 .1 .1 .1)
+
+loop-less : tie.Need-loop-less Inv-loop μ-loop
+loop-less c =
+    let start = c .before .before .before .before .before .before .before .before .before .before .before .before .before .before .before .before .before .before .before .before .before .before .before .before .before .before .before .before .before .before .before .before .before .before .before in
+    let a = c .before .before .before .before .before .before .before .before .before .before .before .before .before .before .before .before .before .before .before .before .before .before .before .loop in
+    let k = c .before .before .before .before .before .before .before .before .before .before .before .before .before .before .before .before .before .before .before .before .chunk-size .result in
+    let room : a .n + 2048 ≤ length (a .text) = omega (arith, (c .before .before .before .before .before .before .before .before .before .before .before .before .before .before .before .before .before .before .before .before .before .before .goes-on .ensures (c .before .before .before .before .before .before .before .before .before .before .before .before .before .before .before .before .before .before .before .before .before .if1 .taken)) .0, a .inv .0 .roomy, a .inv .1 .1 .1 .1 .1 .1) in
+    let long : a .at + k ≤ length (now (start .args .input)) = omega (arith, c .before .before .before .before .before .before .before .before .before .before .before .before .before .before .before .before .before .before .before .before .chunk-size .ensures .0, a .inv .0 .within) in
+    let is : length (take (a .at + k - a .at) (drop (a .at) (now (start .args .input)))) ≡ k = part-is (now (start .args .input)) (a .at) k long in
+    let out : length (take (a .n + 2048 - a .n) (drop (a .n) (a .text))) ≡ 2048 = part-is (a .text) (a .n) 2048 room in
+    left-falls (length (now (start .args .input))) (length (now (start .args .text))) (a .reading) (desk (a .block) (a .line) (a .bytes) (a .command)) (a .at) (a .n) _ _ (c .before .before .before .before .before .before .before .before .before .before .before .before .before .fill .result) _ _ (a .inv .0) (c .before .before .before .before .before .before .before .before .before .before .before .before .before .fill .ensures) (omega (arith, is, long)) (omega (arith, is, c .before .before .before .before .before .before .before .before .before .before .before .before .before .before .before .before .before .before .before .before .chunk-size .ensures .1 .1)) (omega (arith, out)) ((c .before .before .before .before .before .before .before .before .before .before .before .before .before .before .before .before .before .before .before .before .before .before .goes-on .ensures (c .before .before .before .before .before .before .before .before .before .before .before .before .before .before .before .before .before .before .before .before .before .if1 .taken)) .1)
+
+loop-again : tie.Need-loop-again Inv-loop μ-loop
+loop-again c =
+    let start = c .before .before .before .before .before .before .before .before .before .before .before .before .before .before .before .before .before .before .before .before .before .before .before .before .before .before .before .before .before .before .before .before .before .before .before in
+    let a = c .before .before .before .before .before .before .before .before .before .before .before .before .before .before .before .before .before .before .before .before .before .before .before .loop in
+    let k = c .before .before .before .before .before .before .before .before .before .before .before .before .before .before .before .before .before .before .before .before .chunk-size .result in
+    let room : a .n + 2048 ≤ length (a .text) = omega (arith, (c .before .before .before .before .before .before .before .before .before .before .before .before .before .before .before .before .before .before .before .before .before .before .goes-on .ensures (c .before .before .before .before .before .before .before .before .before .before .before .before .before .before .before .before .before .before .before .before .before .if1 .taken)) .0, a .inv .0 .roomy, a .inv .1 .1 .1 .1 .1 .1) in
+    let long : a .at + k ≤ length (now (start .args .input)) = omega (arith, c .before .before .before .before .before .before .before .before .before .before .before .before .before .before .before .before .before .before .before .before .chunk-size .ensures .0, a .inv .0 .within) in
+    let is : length (take (a .at + k - a .at) (drop (a .at) (now (start .args .input)))) ≡ k = part-is (now (start .args .input)) (a .at) k long in
+    let out : length (take (a .n + 2048 - a .n) (drop (a .n) (a .text))) ≡ 2048 = part-is (a .text) (a .n) 2048 room in
+    let f = c .before .before .before .before .before .before .before .before .before .before .before .before .before .fill in
+    let l = a .inv .1 .1 in (
+      stands-on (length (now (start .args .input))) (length (now (start .args .text))) (a .reading) (desk (a .block) (a .line) (a .bytes) (a .command)) (a .at) (a .n) _ _ (c .before .before .before .before .before .before .before .before .before .before .before .before .before .fill .result) _ _ (a .inv .0) (c .before .before .before .before .before .before .before .before .before .before .before .before .before .fill .ensures) (omega (arith, is, long)) (c .kept .result) (c .kept .ensures) (omega (arith, out, room, l .1 .1 .1 .1)),
+      (a .inv .1 .0, (f .kept .1 .0 ∙ l .0, (f .kept .1 .1 .0 ∙ l .1 .0, (f .kept .1 .1 .1 .0 ∙ l .1 .1 .0, (f .kept .1 .1 .1 .1 .0 ∙ l .1 .1 .1 .0, search needs))))),
+    )
+
+same-length : tie.Need-same-length Inv-loop μ-loop
+same-length c = c .before .before .loop .inv .1 .1 .0 ∙ c .before .before .before .before .before .before .post-boot .kept .0
+
+same-length-2 : tie.Need-same-length-2 Inv-loop μ-loop
+same-length-2 c = c .before .before .loop .inv .1 .1 .1 .0
+
+same-length-3 : tie.Need-same-length-3 Inv-loop μ-loop
+same-length-3 c = c .before .before .loop .inv .1 .1 .1 .1 .0
+
+same-length-4 : tie.Need-same-length-4 Inv-loop μ-loop
+same-length-4 c = c .before .before .loop .inv .1 .1 .1 .1 .1 .0
+
+same-length-5 : tie.Need-same-length-5 Inv-loop μ-loop
+same-length-5 c = c .before .before .loop .inv .1 .1 .1 .1 .1 .1
+
+returns : tie.Need-returns Inv-loop μ-loop
+returns c = (c .before .before .loop .inv .0 .fit .valid, (c .before .before .loop .inv .0 .roomy, c .before .before .loop .inv .1 .0))
+
+pub read-log-spec : {M : Type 1} → statement M
+read-log-spec =
+    tie.close
+    (tie.spec
+    Inv-loop
+    μ-loop
+    post-boot-requires
+    begin-requires
+    loop-holds
+    sub-goes-on
+    goes-on-requires
+    sub-chunk-size
+    chunk-size-requires
+    add-end
+    sub-fill
+    part-fill-start
+    part-fill-end
+    add-fill
+    sub-fill-2
+    part-fill-start-2
+    part-fill-end-2
+    fill-requires
+    add-at
+    kept-requires
+    add-n
+    loop-less
+    loop-again
+    same-length
+    same-length-2
+    same-length-3
+    same-length-4
+    same-length-5
+    returns)
