@@ -6,4 +6,5 @@ mod effects;
 mod leaves;
 mod logs;
 mod packets;
+mod playing;
 mod views;
