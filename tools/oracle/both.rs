@@ -45,9 +45,11 @@ impl Both {
         Ok(command)
     }
 
-    /// Writes in a row by `play`, which ends at each command.
-    pub fn play(&mut self, mut writes: &[u8]) -> Result<(), String> {
-        while !writes.is_empty() {
+    /// Writes in a row by `play`, which ends at each command: each with the number of the write that completes it.
+    pub fn play(&mut self, writes: &[u8]) -> Result<Vec<(usize, Vec<u8>)>, String> {
+        let (mut from, mut commands) = (0, Vec::new());
+        while from < writes.len() {
+            let writes = &writes[from..];
             let told = play(&mut self.port, writes, &mut self.buffer);
             let (at, command) = self.rust.play(writes);
             let due = at << 8 | command.len() / 16;
@@ -59,9 +61,31 @@ impl Both {
             }
             count(|c| c.played += at as u64);
             self.complete(&command)?;
-            writes = &writes[at..];
+            from += at;
+            if !command.is_empty() {
+                commands.push((from - 1, command));
+            }
         }
-        Ok(())
+        Ok(commands)
+    }
+
+    /// The same by the public call, write by write.
+    pub fn write_all(&mut self, writes: &[u8]) -> Result<Vec<(usize, Vec<u8>)>, String> {
+        let mut commands = Vec::new();
+        for (at, value) in writes.iter().enumerate() {
+            let command = self.write(*value)?;
+            if !command.is_empty() {
+                commands.push((at, command));
+            }
+        }
+        Ok(commands)
+    }
+
+    pub fn line(&mut self, writes: &[u8], by: By) -> Result<Vec<(usize, Vec<u8>)>, String> {
+        match by {
+            By::Write => self.write_all(writes),
+            By::Play => self.play(writes),
+        }
     }
 
     /// The buffer, and the block if there is a command.
@@ -115,12 +139,9 @@ pub enum By {
 pub fn follow(block: &[u8], spare: usize, events: &[Event], by: By) -> Result<(), String> {
     let mut both = Both::load(block, spare);
     for event in events {
-        match (event, by) {
-            (Event::Writes(writes), By::Write) => {
-                writes.iter().try_for_each(|w| both.write(*w).map(drop))?;
-            }
-            (Event::Writes(writes), By::Play) => both.play(writes)?,
-            (Event::Screen(screen), _) => drop(both.screen(screen)?),
+        match event {
+            Event::Writes(writes) => drop(both.line(writes, by)?),
+            Event::Screen(screen) => drop(both.screen(screen)?),
         }
     }
     both.same()

@@ -2,7 +2,8 @@
 //! Where every fixed write has equally many screens before it in both, each write and each screen gets the same answer and the blocks
 //! are the same, all four. And that the condition is needed: a screen moved over one fixed write, of each kind, leads elsewhere.
 
-use crate::both::Both;
+use crate::block;
+use crate::both::{Both, By};
 use crate::counts::{self, FIXED, count};
 use crate::ctx::Ctx;
 use crate::event::Event;
@@ -28,28 +29,27 @@ pub fn run(ctx: &mut Ctx) {
     }
 }
 
-/// Transfers with the screens that they need, what uses a landed page or the live capture, and other writes between.
+/// Transfers with about the screens that they need, what uses a landed page or the live capture, and other writes between.
 fn events(rng: &mut Rng) -> Vec<Event> {
+    let pairs = [
+        (0x0B, 0x0A),
+        (0x15, 0x16),
+        (0x15, 0x0A),
+        (0x13, 0x17),
+        (0x14, 0x17),
+    ];
     let mut events = Vec::new();
-    let mut line = |rng: &mut Rng, code| {
-        let writes = match rng.one_in(3) {
-            true => generate::writes(rng, 300),
-            false => generate::encode(&generate::command(rng, code, 1)),
-        };
-        events.push(Event::Writes(writes));
-        let screens = rng.pick(&[0, 1, 2, 3, 3, 4]);
-        events.extend((0..screens).map(|_| Event::Screen(generate::screen(rng))));
-    };
     for _ in 0..rng.within(2, 5) {
-        let (transfer, then) = rng.pick(&[
-            (0x0B, 0x0A),
-            (0x15, 0x16),
-            (0x15, 0x0A),
-            (0x13, 0x17),
-            (0x14, 0x17),
-        ]);
-        line(rng, transfer);
-        line(rng, then);
+        let (transfer, then) = rng.pick(&pairs);
+        for (code, screens) in [(transfer, [2, 3, 3, 3, 4]), (then, [0, 0, 1, 1, 2])] {
+            if rng.one_in(3) {
+                events.push(Event::Writes(generate::writes(rng, 300)));
+            }
+            events.push(Event::Writes(generate::encode(&generate::command(
+                rng, code, 1,
+            ))));
+            events.extend((0..rng.pick(&screens)).map(|_| Event::Screen(generate::screen(rng))));
+        }
     }
     events
 }
@@ -82,20 +82,17 @@ impl Log {
     }
 
     /// On the port and on the Rust, which must agree at every step.
-    fn run(&self, b: &[u8]) -> Result<Outcome, String> {
+    fn run(&self, b: &[u8], by: By) -> Result<Outcome, String> {
         let mut both = Both::load(b, 0);
         let (mut commands, mut landings) = (Vec::new(), Vec::new());
-        let mut screens = self.screens.iter().peekable();
-        for at in 0..=self.writes.len() {
-            while let Some((_, screen)) = screens.next_if(|s| s.0 == at) {
+        let ends = self.screens.iter().map(|s| (s.0, Some(&s.1)));
+        let mut from = 0;
+        for (at, screen) in ends.chain([(self.writes.len(), None)]) {
+            let told = both.line(&self.writes[from..at], by)?;
+            commands.extend(told.into_iter().map(|(n, command)| (from + n, command)));
+            from = at;
+            if let Some(screen) = screen {
                 landings.push(both.screen(screen)?);
-            }
-            let Some(value) = self.writes.get(at) else {
-                break;
-            };
-            let command = both.write(*value)?;
-            if !command.is_empty() {
-                commands.push((at, command));
             }
         }
         let block = both.ended()?;
@@ -151,29 +148,30 @@ fn fixed_kind(command: &[u8]) -> Option<usize> {
 }
 
 fn pair(b: &[u8], chance: u32, log: &Log) -> Result<(), String> {
-    let one = log.run(b)?;
+    let mut rng = Rng::new(chance.into(), "merged");
+    // the public call takes each write alone, and a merged log is about lines
+    let by = if rng.one_in(6) { By::Write } else { By::Play };
+    let one = log.run(b, by)?;
     let kinds = one
         .commands
         .iter()
         .filter_map(|(at, c)| Some((*at, fixed_kind(c)?)));
     let kinds: Vec<(usize, usize)> = kinds.collect();
     let fixed: Vec<usize> = kinds.iter().map(|k| k.0).collect();
-    let mut rng = Rng::new(chance.into(), "merged");
     let other = log.merged_again(&fixed, &mut rng);
-    let two = other.run(b)?;
+    let two = other.run(b, by)?;
     if one.commands != two.commands || one.landings != two.landings {
         return Err("another merge gets other answers".into());
     }
-    crate::block::difference(&one.block, &two.block)?;
+    block::difference(&one.block, &two.block)?;
     count(|c| c.merged += 1);
-    if kinds.is_empty() {
-        return Ok(());
-    }
-    // the condition broken at one fixed write: port and Rust agree again, wherever it leads
-    let (at, kind) = rng.pick(&kinds);
-    if let Some(moved) = log.moved_over(at) {
-        let led = moved.run(b)?;
-        count(|c| c.moved[kind] += u64::from(led != one));
+    // the condition broken at one fixed write, at two of them in turn: port and Rust agree again, wherever it leads
+    for _ in 0..kinds.len().min(2) {
+        let (at, kind) = rng.pick(&kinds);
+        if let Some(moved) = log.moved_over(at) {
+            let led = moved.run(b, by)?;
+            count(|c| c.moved[kind] += u64::from(led != one));
+        }
     }
     Ok(())
 }

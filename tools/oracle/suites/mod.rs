@@ -23,15 +23,16 @@ macro_rules! suites {
     };
 }
 
+// the longest first, so that no processor is left with one at the end
 suites! {
-    oracle 2 * 4,
+    unit 4 * 1,
+    receiver 1 * 4,
+    oracle 2 * 3,
     leaves 1 * 1,
-    receiver 2 * 4,
     commands 4 * 10,
     picture 4 * 15,
     views 4 * 5,
-    unit 4 * 4,
-    play 10 * 16,
-    merged 4 * 5,
+    play 10 * 15,
+    merged 4 * 6,
     stored 1 * 1,
 }
