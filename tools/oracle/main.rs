@@ -137,7 +137,11 @@ fn jobs(options: &Options) -> Vec<Job> {
 
 /// Runs the suites, as many at a time as the machine has processors, and prints each as it ends.
 fn run_all(options: &Options) -> Vec<Ctx> {
-    let jobs = jobs(options);
+    let mut jobs = jobs(options);
+    if options.first {
+        // the short suites first
+        jobs.reverse();
+    }
     let next = AtomicUsize::new(0);
     let results = Mutex::new(Vec::new());
     let workers = match options.first {
