@@ -117,7 +117,7 @@ impl Both {
     }
 
     pub fn same(&self) -> Result<(), String> {
-        count(|c| c.blocks += 1);
+        count(|c| c.compared += 1);
         block::difference(&self.port, &self.rust.save())
     }
 

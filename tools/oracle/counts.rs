@@ -41,7 +41,7 @@ pub struct Counts {
     pub pictures: u64,
     pub rows: u64,
     /// Whole blocks compared, byte by byte.
-    pub blocks: u64,
+    pub compared: u64,
     /// Blocks from which runs of writes and screens set out.
     pub new: u64,
     pub post_boot: u64,
@@ -104,7 +104,7 @@ impl Counts {
         sum(&mut self.landings, &other.landings);
         self.pictures += other.pictures;
         self.rows += other.rows;
-        self.blocks += other.blocks;
+        self.compared += other.compared;
         self.new += other.new;
         self.post_boot += other.post_boot;
         for (class, n) in &other.random {
@@ -116,58 +116,73 @@ impl Counts {
         sum(&mut self.moved, &other.moved);
     }
 
-    /// Each figure by name, and what a long run owes of it.
-    pub fn figures(&self) -> Vec<(String, u64, u64)> {
+    /// All figures, as they are printed.
+    pub fn figures(&self) -> Vec<Figure> {
+        let mut all = self.written();
+        all.extend(self.shown());
+        all.extend(self.blocks());
+        all
+    }
+
+    fn written(&self) -> Vec<Figure> {
         let pairs = self.commands.len() as u64;
-        let fewest = self.commands.values().min().copied().unwrap_or(0);
+        let fewest = match pairs {
+            PAIRS => self.commands.values().min().copied().unwrap_or(0),
+            _ => 0,
+        };
+        vec![
+            figure("writes by write_joypad", self.writes, 10_000_000),
+            figure("writes by play", self.played, 0),
+            figure("writes by either", self.writes + self.played, 100_000_000),
+            figure("writes by the receiver alone", self.received, 0),
+            figure("commands", self.commands.values().sum(), 100_000),
+            figure("(code, packets) pairs of commands", pairs, PAIRS),
+            figure("commands of the rarest pair", fewest, 100),
+        ]
+    }
+
+    fn shown(&self) -> Vec<Figure> {
+        let mut all = vec![figure("screens", self.screens, 300_000)];
+        for (kind, n) in LANDINGS.iter().zip(self.landings) {
+            all.push(figure(format!("landings of {kind}"), n, 20_000));
+        }
+        all.push(figure("pictures", self.pictures, 10_000));
+        all.push(figure("rows asked for alone", self.rows, 100_000));
+        all
+    }
+
+    fn blocks(&self) -> Vec<Figure> {
+        let random = self.random.values().sum();
         let mut all = vec![
-            ("writes by write_joypad", self.writes, 10_000_000),
-            ("writes by play", self.played, 0),
-            ("writes by either", self.writes + self.played, 100_000_000),
-            ("writes by the receiver alone", self.received, 0),
-            ("completed commands", self.commands.values().sum(), 100_000),
-            ("(code, packets) pairs among them", pairs, PAIRS),
-            (
-                "the fewest of a pair",
-                if pairs < PAIRS { 0 } else { fewest },
-                100,
-            ),
-            ("screens", self.screens, 300_000),
-            ("pictures", self.pictures, 10_000),
-            ("rows asked for alone", self.rows, 100_000),
-            ("whole blocks compared", self.blocks, 400_000),
-            ("runs from new", self.new, 1000),
-            ("runs from post_boot", self.post_boot, 1000),
-            (
-                "runs from random valid blocks",
-                self.random.values().sum(),
-                10_000,
-            ),
-            ("classes of these blocks", self.random.len() as u64, CLASSES),
-            ("damaged blocks, refused", self.refused, 10_000),
-            ("damaged blocks, still valid", self.unhurt, 1000),
-            ("pairs of merged logs", self.merged, 1000),
+            figure("whole blocks compared", self.compared, 400_000),
+            figure("runs from new", self.new, 1000),
+            figure("runs from post_boot", self.post_boot, 1000),
+            figure("runs from random valid blocks", random, 10_000),
+            figure("classes of these", self.random.len() as u64, CLASSES),
+            figure("damaged blocks, refused", self.refused, 10_000),
+            figure("damaged blocks, still valid", self.unhurt, 1000),
+            figure("pairs of merged logs", self.merged, 1000),
         ];
-        let kinds = LANDINGS.iter().zip(self.landings);
-        let landings: Vec<_> = kinds
-            .map(|(kind, n)| (format!("landings of {kind}"), n, 20_000))
-            .collect();
-        let kinds = FIXED.iter().zip(self.moved);
-        let moved = kinds.map(|(kind, n)| {
-            (
-                format!("outcomes that a screen moved over {kind} changed"),
-                n,
-                10,
-            )
-        });
-        let mut figures: Vec<_> = all
-            .drain(..)
-            .map(|(name, n, floor)| (name.to_string(), n, floor))
-            .collect();
-        let at = figures.iter().position(|f| f.0 == "pictures").unwrap();
-        figures.splice(at..at, landings);
-        figures.extend(moved);
-        figures
+        for (kind, n) in FIXED.iter().zip(self.moved) {
+            let name = format!("other outcomes by a screen moved over {kind}");
+            all.push(figure(name, n, 10));
+        }
+        all
+    }
+}
+
+/// What is printed of a number, and what a long run owes of it.
+pub struct Figure {
+    pub name: String,
+    pub n: u64,
+    pub floor: u64,
+}
+
+fn figure(name: impl Into<String>, n: u64, floor: u64) -> Figure {
+    Figure {
+        name: name.into(),
+        n,
+        floor,
     }
 }
 

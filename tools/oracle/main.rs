@@ -18,7 +18,7 @@ mod stored;
 mod suites;
 mod valid;
 
-use counts::{Counts, spelled};
+use counts::{Counts, Figure, spelled};
 use ctx::Ctx;
 use std::sync::Mutex;
 use std::sync::atomic::{AtomicUsize, Ordering};
@@ -58,7 +58,7 @@ fn main() {
 /// Prints what was compared. In a long run a figure below its floor is a failure; how many there are.
 fn figures(counts: &Counts, long: bool) -> u64 {
     let mut low = 0;
-    for (name, n, floor) in counts.figures() {
+    for Figure { name, n, floor } in counts.figures() {
         let short = long && n < floor;
         low += u64::from(short);
         if n > 0 || long {

@@ -67,7 +67,7 @@ fn one(ctx: &mut Ctx, d: Vec<u8>) {
         counts::command(&d.0);
         count(|c| {
             c.writes += 1;
-            c.blocks += 2;
+            c.compared += 2;
         });
         block::difference(&unit, &rust)?;
         block::difference(&carried_out(&before, &d.0, &unit), &rust)
