@@ -1,6 +1,7 @@
 //! What a suite is given: its source of chance, its count of cases, and the ways to try one. A case that fails, or in
 //! which the Rust, the port or the suite panics, is made small and reported; the suite goes on.
 
+use crate::counts::{self, Counts};
 use crate::rng::Rng;
 use crate::shrink::Shrink;
 use std::cell::RefCell;
@@ -21,16 +22,24 @@ pub struct Ctx {
     pub failed: u64,
     /// What is printed below the suite's line.
     pub report: Vec<String>,
+    /// What was compared, once the suite is done.
+    pub counts: Counts,
+    name: &'static str,
+    /// Whether the first failure ends the whole run.
+    first: bool,
 }
 
 impl Ctx {
-    pub fn new(name: &str, seed: u64, scale: usize) -> Self {
+    pub fn new(name: &'static str, seed: u64, scale: usize, first: bool) -> Self {
         Ctx {
             rng: Rng::new(seed, name),
             scale,
             cases: 0,
             failed: 0,
             report: Vec::new(),
+            counts: Counts::default(),
+            name,
+            first,
         }
     }
 
@@ -65,7 +74,7 @@ impl Ctx {
         let Err(first) = run(&test, &input) else {
             return;
         };
-        if self.failed < SHOWN as u64 {
+        if self.failed < SHOWN as u64 && !self.first {
             let started = Instant::now();
             input.shrink(&mut |i| started.elapsed() < PATIENCE && run(&test, i).is_err());
         }
@@ -77,6 +86,10 @@ impl Ctx {
 
     fn fail(&mut self, say: impl FnOnce() -> String) {
         self.failed += 1;
+        if self.first {
+            println!("noticed by {} in case {}: {}", self.name, self.cases, say());
+            std::process::exit(1);
+        }
         if self.failed <= SHOWN as u64 {
             let text = format!("FAILED in case {}: {}", self.cases, say());
             self.report.push(text);
@@ -90,6 +103,7 @@ impl Ctx {
             self.cases += 1;
             self.fail(|| why);
         }
+        self.counts = counts::take();
     }
 }
 

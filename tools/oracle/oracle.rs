@@ -121,6 +121,16 @@ impl Oracle {
         self.0.write_joypad(value)
     }
 
+    /// Writes in a row up to the first that completes a command: how many they were, and the command, or no byte.
+    pub fn play(&mut self, writes: &[u8]) -> (usize, Vec<u8>) {
+        for (i, w) in writes.iter().enumerate() {
+            if let Some(command) = self.write(*w) {
+                return (i + 1, command);
+            }
+        }
+        (writes.len(), Vec::new())
+    }
+
     /// A screen of 5,760 bytes: the kind that lands. The Rust answers nothing here, so what was pending before and
     /// after tells it.
     pub fn screen(&mut self, packed: &[u8]) -> Option<u8> {

@@ -1,4 +1,4 @@
-//! The stored list, `crates/stored/stdout`: 352 rounds of writes, screens and looks, made from seeds, with a digest of each kind
+//! The stored list, `crates/stored/stdout`: 608 rounds of writes, screens and looks, made from seeds, with a digest of each kind
 //! of answer and of the block. The program `stored` runs the same rounds over the port, so `rt check` holds it to these lines
 //! with no Rust at hand; the suite `stored` holds the lines to the Rust. The generator is told in `crates/stored/src`, and
 //! here only done again: names are the same, and nothing of the harness's own chance comes in.

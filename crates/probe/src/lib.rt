@@ -7,4 +7,5 @@ mod jobs;
 mod leaves;
 mod logs;
 mod packets;
+mod playing;
 mod views;

@@ -78,6 +78,15 @@ pub fn block(rng: &mut Rng) -> Vec<u8> {
     block_of(rng, class)
 }
 
+/// A block to set out from: a fresh one now and then.
+pub fn start(rng: &mut Rng) -> Vec<u8> {
+    match rng.below(8) {
+        0 => new(),
+        1 => post_boot(),
+        _ => block(rng),
+    }
+}
+
 /// A random block of this class, valid if the class is one that V1 to V6 allow.
 pub fn block_of(rng: &mut Rng, class: Class) -> Vec<u8> {
     let mut b = vec![0; LEN];

@@ -165,3 +165,25 @@ pub fn events(rng: &mut Rng, lines: usize) -> Vec<Event> {
     }
     events
 }
+
+/// A long log in which most transfers land: one is asked for, as many screens follow as it takes, or one fewer or more, and then
+/// writes, which a screen may cut in two wherever it is.
+pub fn transfers(rng: &mut Rng, n: usize) -> Vec<Event> {
+    let mut events = Vec::new();
+    for _ in 0..n {
+        let transfer = rng.pick(&[0x0B, 0x13, 0x13, 0x14, 0x15]);
+        events.push(Event::Writes(encode(&command(rng, transfer, 1))));
+        let screens = rng.pick(&[2, 3, 3, 3, 4]);
+        events.extend((0..screens).map(|_| Event::Screen(screen(rng))));
+        let most = rng.within(1, 1200);
+        let mut line = writes(rng, most);
+        line.truncate(SCREEN_LEN);
+        if rng.one_in(3) {
+            let rest = line.split_off(rng.below(line.len()));
+            events.extend([Event::Writes(line), Event::Screen(screen(rng))]);
+            line = rest;
+        }
+        events.push(Event::Writes(line));
+    }
+    events
+}

@@ -1,11 +1,12 @@
 //! What each command does, held to the Rust: a block whose receiver has all of a command but its stop pulse, then that
 //! pulse. The port's side is the whole unit, and beside it the decoding and the effect on each part; every byte of the block is compared.
 
-use super::unit::{COMMAND_LEN, write_joypad};
 use crate::block::{self, *};
+use crate::counts::{self, count};
 use crate::ctx::Ctx;
 use crate::generate;
 use crate::oracle::Oracle;
+use crate::port::{COMMAND_LEN, write_joypad};
 use crate::rng::Rng;
 use crate::shrink::{Block, Bytes};
 use crate::valid;
@@ -63,6 +64,11 @@ fn one(ctx: &mut Ctx, d: Vec<u8>) {
         if 16 * packets != d.0.len() || out[..d.0.len()] != d.0 {
             return Err(format!("the unit answers {packets:X} packets, {out:X?}"));
         }
+        counts::command(&d.0);
+        count(|c| {
+            c.writes += 1;
+            c.compared += 2;
+        });
         block::difference(&unit, &rust)?;
         block::difference(&carried_out(&before, &d.0, &unit), &rust)
     });

@@ -11,6 +11,7 @@ use crate::valid;
 use std::collections::BTreeSet;
 
 pub fn run(ctx: &mut Ctx) {
+    every_difference(ctx);
     fresh_blocks(ctx);
     every_class(ctx);
     every_clause(ctx);
@@ -18,6 +19,19 @@ pub fn run(ctx: &mut Ctx) {
     steps_stay_valid(ctx);
     pages(ctx);
     worked_examples(ctx);
+}
+
+/// The comparison itself: a change of any one byte of a block is seen, and told at its place.
+fn every_difference(ctx: &mut Ctx) {
+    let b = generate::block(&mut ctx.rng);
+    ctx.check(block::difference(&b, &b).is_ok(), || "a block differs from itself".into());
+    let mut other = b.clone();
+    for at in 0..LEN {
+        other[at] ^= 1 << ctx.rng.below(8);
+        let told = block::difference(&b, &other).err().unwrap_or_default();
+        ctx.check(told.starts_with(&block::place(at)), || format!("byte {at} is another: {told}"));
+        other[at] = b[at];
+    }
 }
 
 fn fresh_blocks(ctx: &mut Ctx) {

@@ -3,6 +3,7 @@
 //! encoder and the verdict, which the Rust lacks, are held to document 01's sentences.
 
 use crate::block::*;
+use crate::counts::count;
 use crate::ctx::Ctx;
 use crate::generate;
 use crate::oracle::Oracle;
@@ -99,6 +100,7 @@ fn follow(block: &[u8], writes: &[u8]) -> Result<(), String> {
             port.0[JOYPAD_INDEX..=JOYPAD_MASK].copy_from_slice(&rust.save()[1..3]);
         }
     }
+    count(|c| c.received += writes.len() as u64);
     let after = rust.save();
     for at in (JOYPAD_INDEX..=BIT_INDEX).chain(PACKET).chain(STORE) {
         if port.0[at] != after[at] {
@@ -177,6 +179,7 @@ fn logs(ctx: &mut Ctx) {
             let log = &writes.0;
             let mut rust = Oracle::post_boot();
             let heard = log.iter().filter_map(|w| rust.write(*w)).count();
+            count(|c| c.received += 2 * log.len() as u64);
             let want = heard << 8 | usize::from(rust.save()[BIT_INDEX]);
             for fast in [0, 1] {
                 let mut store = [0; 112];

@@ -2,30 +2,17 @@
 //! the command buffer, the refusals with every combination of their causes, and damaged blocks against `valid`'s reading of V1 to V6.
 
 use crate::block::{self, *};
+use crate::both::{By, follow, marked};
+use crate::counts::{self, count};
 use crate::ctx::Ctx;
 use crate::event::Event;
 use crate::generate;
 use crate::oracle::Oracle;
+use crate::port::*;
 use crate::rng::Rng;
 use crate::shrink::{Block, List};
 use crate::valid;
-use std::cell::Cell;
 use std::collections::BTreeSet;
-
-unsafe extern "C" {
-    // any slices: a pointer and a length each; a refusal n is answered as 100 hex + n
-    fn probe_write_joypad(b: *mut u8, len: usize, value: u8, out: *mut u8, out_len: usize) -> u32;
-    fn probe_update_screen(b: *mut u8, len: usize, screen: *const u8, screen_len: usize) -> u32;
-    // a refusal n is answered as n
-    fn probe_check(b: *const u8, len: usize) -> u32;
-    fn probe_new(b: *mut u8, len: usize) -> u32;
-    fn probe_post_boot(b: *mut u8, len: usize) -> u32;
-}
-
-const REFUSED: u32 = 0x100;
-/// The answer to a screen at which no transfer lands.
-const NOTHING: u32 = 0xFF;
-pub const COMMAND_LEN: usize = 112;
 
 pub fn run(ctx: &mut Ctx) {
     fresh(ctx);
@@ -33,93 +20,6 @@ pub fn run(ctx: &mut Ctx) {
     streams(ctx);
     refusals(ctx);
     damaged_blocks(ctx);
-}
-
-pub fn write_joypad(b: &mut [u8], value: u8, out: &mut [u8]) -> u32 {
-    unsafe { probe_write_joypad(b.as_mut_ptr(), b.len(), value, out.as_mut_ptr(), out.len()) }
-}
-
-fn update_screen(b: &mut [u8], screen: &[u8]) -> u32 {
-    unsafe { probe_update_screen(b.as_mut_ptr(), b.len(), screen.as_ptr(), screen.len()) }
-}
-
-fn check(b: &[u8]) -> u32 {
-    unsafe { probe_check(b.as_ptr(), b.len()) }
-}
-
-/// A buffer in which a byte that is written, or moved, is seen.
-fn marked(len: usize) -> Vec<u8> {
-    (0..len).map(|i| 0xA5 ^ i as u8).collect()
-}
-
-/// The port's block and command buffer, and the Rust beside them with what the buffer must hold.
-struct Both {
-    port: Vec<u8>,
-    buffer: Vec<u8>,
-    rust: Oracle,
-    due: Vec<u8>,
-}
-
-impl Both {
-    fn load(block: &[u8], spare: usize) -> Self {
-        Both {
-            port: block.to_vec(),
-            buffer: marked(COMMAND_LEN + spare),
-            rust: Oracle::load(block),
-            due: marked(COMMAND_LEN + spare),
-        }
-    }
-
-    fn write(&mut self, value: u8) -> Result<(), String> {
-        let told = write_joypad(&mut self.port, value, &mut self.buffer);
-        let command = self.rust.write(value).unwrap_or_default();
-        let packets = command.len() as u32 / 16;
-        if told != packets {
-            return Err(format!("write {value:02X}: {told:X}, the Rust {packets:X}"));
-        }
-        self.due[..command.len()].copy_from_slice(&command);
-        if self.buffer != self.due {
-            let (a, b) = (&self.buffer, &self.due);
-            return Err(format!("command {a:02X?}, the Rust {b:02X?}"));
-        }
-        if packets > 0 { self.same() } else { Ok(()) }
-    }
-
-    fn screen(&mut self, screen: &[u8]) -> Result<u32, String> {
-        let told = update_screen(&mut self.port, screen);
-        let landed = self.rust.screen(screen).map_or(NOTHING, u32::from);
-        if told != landed {
-            return Err(format!("a screen: {told:X}, the Rust {landed:X}"));
-        }
-        self.same()?;
-        Ok(told)
-    }
-
-    fn same(&self) -> Result<(), String> {
-        block::difference(&self.port, &self.rust.save())
-    }
-}
-
-/// Both take the events: the same answers and buffers, and the same block at each command and screen and at the end.
-fn follow(
-    block: &[u8],
-    spare: usize,
-    events: &[Event],
-    landings: &Cell<[u32; 5]>,
-) -> Result<(), String> {
-    let mut both = Both::load(block, spare);
-    for event in events {
-        match event {
-            Event::Writes(writes) => writes.iter().try_for_each(|w| both.write(*w))?,
-            Event::Screen(screen) => {
-                let landed = both.screen(screen)? as usize;
-                let mut counts = landings.get();
-                counts.get_mut(landed).map(|n| *n += 1);
-                landings.set(counts);
-            }
-        }
-    }
-    both.same()
 }
 
 /// `new` and `post_boot` over any bytes are the Rust's, and refuse a block of another length.
@@ -150,7 +50,6 @@ fn fresh(ctx: &mut Ctx) {
 
 /// Every code with every packet count and then the screens at which a transfer lands, from `post_boot` and from random blocks.
 fn every_command(ctx: &mut Ctx) {
-    let landings = Cell::default();
     for round in ctx.rounds(4) {
         for first in 0..=255u8 {
             let mut b = block::post_boot();
@@ -167,7 +66,7 @@ fn every_command(ctx: &mut Ctx) {
             }
             let spare = ctx.rng.pick(&[0, 0, 1, 16, 40]);
             ctx.try_on((Block(b), spare, List(events)), |(b, spare, events)| {
-                follow(&b.0, *spare, &events.0, &landings)
+                follow(&b.0, *spare, &events.0, By::Write)
             });
         }
     }
@@ -175,7 +74,6 @@ fn every_command(ctx: &mut Ctx) {
 
 /// Commands, faults, noise and screens, from any valid block and from `post_boot`. Each kind of transfer lands.
 fn streams(ctx: &mut Ctx) {
-    let landings = Cell::default();
     for round in ctx.rounds(400) {
         let mut b = generate::block(&mut ctx.rng);
         if round % 4 == 0 {
@@ -186,12 +84,11 @@ fn streams(ctx: &mut Ctx) {
         events.extend(generate::events(&mut ctx.rng, 12));
         let spare = ctx.rng.pick(&[0, 0, 1, 16, 40]);
         ctx.try_on((Block(b), spare, List(events)), |(b, spare, events)| {
-            follow(&b.0, *spare, &events.0, &landings)
+            follow(&b.0, *spare, &events.0, By::Write)
         });
     }
-    let landings = landings.get();
+    let landings = counts::landings();
     ctx.check(landings.iter().all(|n| *n > 0), || "a kind never landed".into());
-    ctx.note(format!("landings of each kind: {landings:?}"));
 }
 
 /// The causes of refusals 1 and 2 in every combination, on a random block: the block, and the lower number that is due, or 0.
@@ -288,7 +185,7 @@ fn change(b: &mut [u8], change: u32) {
 
 /// A valid block with some bytes changed is refused exactly if `valid` says so, and is then left as it is. More than 10,000 are invalid.
 fn damaged_blocks(ctx: &mut Ctx) {
-    let (mut broken, mut alone, mut refused) = (BTreeSet::new(), BTreeSet::new(), 0);
+    let (mut broken, mut alone) = (BTreeSet::new(), BTreeSet::new());
     for _ in ctx.rounds(12_000) {
         let b = generate::block(&mut ctx.rng);
         let changes = damage(&mut ctx.rng, &b);
@@ -296,7 +193,10 @@ fn damaged_blocks(ctx: &mut Ctx) {
         changes.iter().for_each(|c| change(&mut hurt, *c));
         let clauses = valid::clauses(&hurt).into_iter().filter(|c| !c.1);
         let names: Vec<&str> = clauses.map(|c| c.0).collect();
-        refused += usize::from(!names.is_empty());
+        match names.is_empty() {
+            true => count(|c| c.unhurt += 1),
+            false => count(|c| c.refused += 1),
+        }
         if let [only] = names[..] {
             alone.insert(only);
         }
@@ -312,7 +212,7 @@ fn damaged_blocks(ctx: &mut Ctx) {
         ctx.check(broken.contains(clause), || format!("no block breaks {clause}"));
     }
     ctx.note(format!(
-        "{refused} damaged blocks invalid; of {} clauses {} broken, {} each alone",
+        "of {} clauses {} broken, {} each alone",
         all.len(),
         broken.len(),
         alone.len()

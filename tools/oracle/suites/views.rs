@@ -2,6 +2,7 @@
 //! combination of causes, where the lowest number wins and no lent byte changes.
 
 use crate::block::LEN;
+use crate::counts::count;
 use crate::ctx::Ctx;
 use crate::generate;
 use crate::oracle::Oracle;
@@ -132,7 +133,15 @@ impl Call {
     fn right(self, b: &[u8]) -> Result<(), String> {
         match self.refusal(b) {
             Some(no) => self.same(b, (REFUSED | no, self.lent())),
-            None => self.same(b, self.rust(&Oracle::load(b))),
+            None => {
+                self.same(b, self.rust(&Oracle::load(b)))?;
+                count(|c| match self {
+                    Call::Row(..) => c.rows += 1,
+                    Call::Picture(_) => c.pictures += 1,
+                    _ => {}
+                });
+                Ok(())
+            }
         }
     }
 }
@@ -235,13 +244,14 @@ fn asked() -> Vec<Call> {
 
 /// The refusal of a block by itself, on blocks that are valid or just not.
 fn damaged(ctx: &mut Ctx) {
-    let mut refused = 0;
     for _ in ctx.rounds(2000) {
         let b = generate::nearly_valid(&mut ctx.rng);
         let no = if valid::check(&b).is_ok() { 0 } else { 2 };
-        refused += u64::from(no != 0);
+        match no {
+            0 => count(|c| c.unhurt += 1),
+            _ => count(|c| c.refused += 1),
+        }
         let port = unsafe { probe_view_refusal(b.as_ptr(), b.len()) };
         ctx.check(port == no, || format!("refusal {port}, not {no}: {:02X?}", &b[..32]));
     }
-    ctx.note(format!("{refused} of the damaged blocks are not valid"));
 }
