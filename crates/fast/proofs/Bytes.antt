@@ -1,15 +1,14 @@
 -- Bytes in one number, the first one lowest: a test or a mask on the number is one on each byte, since no byte carries into the next.
 -- What `polling` asks of eight writes: is a start pulse among them, and how often does P15 rise.
 use mathlib.Core.Path.{_≡_, refl, sym, ap, ap₂, _∙_}
-use mathlib.Core.Bool.{Bool, true, false, not, _&&_, cond}
-use mathlib.Core.List.{List, [], _∷_, _++_}
+use mathlib.Core.Bool.{Bool, true, false, cond}
+use mathlib.Core.List.{List, [], _∷_}
 use Prim.Native.Nat.{ℕ, zero, suc, _+_, _-_, _*_, _/_, _%_, _<_, _≤_}
 use native.Mathlib.Nat.{mod-lt, add-mul-mod-self-right, mod-eq-of-lt, add-zero}
 use native.Mathlib.Omega.{arith}
 use lib.Dec.{eqb, lit<, lit≤}
 use lib.Bits.{bitAnd, and-zero-r, and-mask, and-high, and-le-r, and-block}
-use lib.ListN.{length, getD, drop}
-use lib.Seq.{drop-cons}
+use lib.ListN.{length, getD}
 use Rattle.bits.specs.Bit.{bitOf}
 use Rattle.receiver.specs.Lines.{p15High}
 use Rattle.fast.specs.Fast.{risesAt}

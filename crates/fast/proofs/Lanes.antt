@@ -99,6 +99,14 @@ ones u0 u1 u2 u3 w0 w1 w2 w3 a0 a1 a2 a3 b0 b1 b2 b3 e = (omega arith, (omega ar
 module _ (a0 c0 a1 c1 a2 c2 a3 c3 x : ℕ) (h0 : a0 < 256) (k0 : c0 < 256) (h1 : a1 < 256) (k1 : c1 < 256) (h2 : a2 < 256) (k2 : c2 < 256)
     (h3 : a3 < 256) (k3 : c3 < 256)
     (ex : x ≡ a0 + c0 * 256 + a1 * 65536 + c1 * 16777216 + a2 * 4294967296 + c2 * 1099511627776 + a3 * 281474976710656 + c3 * 72057594037927936) where
+  -- the data bits, whatever the pulses are
+  pub bits-of : bitAnd (x / 16) 281479271743489 ≡ a0 / 16 % 2 + a1 / 16 % 2 * 65536 + a2 / 16 % 2 * 4294967296 + a3 / 16 % 2 * 281474976710656
+  bits-of =
+      let e : x ≡ (((a3 + c3 * 256) * 65536 + (a2 + c2 * 256)) * 65536 + (a1 + c1 * 256)) * 65536 + (a0 + c0 * 256) = omega arith in
+      ap (λ (y : ℕ). bitAnd (y / 16) 281479271743489) e
+      ∙ spread16 (a0 + c0 * 256) (a1 + c1 * 256) (a2 + c2 * 256) (a3 + c3 * 256) (omega arith) (omega arith) (omega arith) (omega arith)
+      ∙ omega (arith, lane16 a0 c0 h0 k0, lane16 a1 c1 h1 k1, lane16 a2 c2 h2 k2, lane16 a3 c3 h3 k3)
+
   pub four : bitAnd x 3458817291183992832 ≡ 3458817291183992832 → bitAnd (x / 16) 281479271743489 + bitAnd (x / 32) 281479271743489 ≡ 281479271743489
       → Four a0 c0 a1 c1 a2 c2 a3 c3 (bitAnd (x / 16) 281479271743489)
   four hm hs =
@@ -127,7 +135,7 @@ module _ (a0 c0 a1 c1 a2 c2 a3 c3 x : ℕ) (h0 : a0 < 256) (k0 : c0 < 256) (h1 :
         p1 = sym (ap₂ (λ (y z : ℕ). y + z) (lane16 a1 c1 h1 k1) (lane32 a1 c1 h1 k1)) ∙ o .1 .0;
         p2 = sym (ap₂ (λ (y z : ℕ). y + z) (lane16 a2 c2 h2 k2) (lane32 a2 c2 h2 k2)) ∙ o .1 .1 .0;
         p3 = sym (ap₂ (λ (y z : ℕ). y + z) (lane16 a3 c3 h3 k3) (lane32 a3 c3 h3 k3)) ∙ o .1 .1 .1;
-        bits = g ∙ omega (arith, lane16 a0 c0 h0 k0, lane16 a1 c1 h1 k1, lane16 a2 c2 h2 k2, lane16 a3 c3 h3 k3);
+        bits = bits-of;
       }
 
 one-low : (y : ℕ) → y % 2 + y / 2 % 2 ≡ 1 → ((y % 4 ≡ 0 → ⊥) × (y % 4 ≡ 3 → ⊥)) × (y % 4 % 2 ≡ y % 2)
@@ -204,25 +212,28 @@ small-parts b0 b1 b2 b3 t o h0 h1 h2 h3 et eo = (omega arith, omega arith)
 or-part : (w n t : ℕ) → 4 + n ≤ 64 → t < 16 → w < 2 ^ n → bitOr w ((t * 2 ^ n) % 18446744073709551616) ≡ w + t * 2 ^ n
 or-part w n t h k b = ap (bitOr w) (shl-exact 4 n 64 k h) ∙ or-shifted-r t n w b ∙ omega arith
 
+-- four bits at most, and as many ones
+pub parts : (ws : List ℕ) (i x : ℕ) → ((j : ℕ) → getD ws j 0 < 256) → x ≡ eightAt ws i
+    → (bitAnd (x / 16) 281479271743489 % 32767 < 16) × (bitAnd (x / 16) 281479271743489 % 65535 ≤ 4)
+unfolding eightAt
+parts ws i x bytes ex =
+    let e = bits-of _ _ _ _ _ _ _ _ x (bytes i) (bytes (i + 1)) (bytes (i + 2)) (bytes (i + 3)) (bytes (i + 4)) (bytes (i + 5)) (bytes (i + 6)) (bytes (i + 7)) ex in
+    let w = folds (getD ws i 0 / 16 % 2) (getD ws (i + 2) 0 / 16 % 2) (getD ws (i + 4) 0 / 16 % 2) (getD ws (i + 6) 0 / 16 % 2) (bitAnd (x / 16) 281479271743489)
+    (bit (getD ws i 0)) (bit (getD ws (i + 2) 0)) (bit (getD ws (i + 4) 0)) (bit (getD ws (i + 6) 0)) e in
+    small-parts _ _ _ _ _ _ (bit (getD ws i 0)) (bit (getD ws (i + 2) 0)) (bit (getD ws (i + 4) 0)) (bit (getD ws (i + 6) 0)) (w .0) (w .1)
+
 module _ (ws : List ℕ) (from word n ones i x : ℕ) (G : Gathering ws from word n ones i) (hn : n < 64) (bytes : (j : ℕ) → getD ws j 0 < 256)
     (ex : x ≡ eightAt ws i) (hm : bitAnd x 3458817291183992832 ≡ 3458817291183992832)
     (hs : bitAnd (x / 16) 281479271743489 + bitAnd (x / 32) 281479271743489 ≡ 281479271743489) where
   in-reach : i + 7 < length ws
   in-reach = omega (arith, G .place, G .room, G .fours)
 
-  pub parts : (bitAnd (x / 16) 281479271743489 % 32767 < 16) × (bitAnd (x / 16) 281479271743489 % 65535 ≤ 4)
-  parts =
-      let f = all-four ws i x in-reach bytes ex hm hs in
-      let w = folds (getD ws i 0 / 16 % 2) (getD ws (i + 2) 0 / 16 % 2) (getD ws (i + 4) 0 / 16 % 2) (getD ws (i + 6) 0 / 16 % 2) (bitAnd (x / 16) 281479271743489)
-      (bit (getD ws i 0)) (bit (getD ws (i + 2) 0)) (bit (getD ws (i + 4) 0)) (bit (getD ws (i + 6) 0)) (f .bits) in
-      small-parts _ _ _ _ _ _ (bit (getD ws i 0)) (bit (getD ws (i + 2) 0)) (bit (getD ws (i + 4) 0)) (bit (getD ws (i + 6) 0)) (w .0) (w .1)
-
   pub gathers-four : Gathering ws from (bitOr word ((bitAnd (x / 16) 281479271743489 % 32767 * 2 ^ n) % 18446744073709551616)) (n + 4)
       (ones + bitAnd (x / 16) 281479271743489 % 65535) (i + 8)
   gathers-four =
       let t : ℕ = bitAnd (x / 16) 281479271743489 % 32767 in
       let o : ℕ = bitAnd (x / 16) 281479271743489 % 65535 in
-      let p = parts in
+      let p = parts ws i x bytes ex in
       let top : 4 + n ≤ 64 = omega (arith, G .fours) in
       subst⁻¹ (λ (v : ℕ). Gathering ws from v (n + 4) (ones + o) (i + 8)) (or-part word n t top (p .0) (G .small)) (record {
         place = omega (arith, G .place);

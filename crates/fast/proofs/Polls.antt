@@ -1,13 +1,13 @@
 -- Eight writes of which none is a start pulse, while no packet is coming in: the run passes them all, and P15's rises among them are the
 -- count that the code makes of one word.
 use mathlib.Core.Path.{_≡_, refl, sym, ap, ap₂, _∙_}
-use mathlib.Core.Bool.{Bool, true, false, cond}
+use mathlib.Core.Bool.{Bool, cond}
 use mathlib.Core.List.{List, [], _∷_, _++_}
-use Prim.Native.Nat.{ℕ, zero, suc, _+_, _-_, _*_, _/_, _%_, _<_, _≤_}
+use Prim.Native.Nat.{ℕ, zero, suc, _+_, _-_, _/_, _%_, _<_, _≤_}
 use native.Mathlib.Nat.{add-zero}
 use native.Mathlib.Omega.{arith}
 use lib.Dec.{lit<}
-use lib.Bits.{bitAnd, and-comm, and-zero-l, and-mask}
+use lib.Bits.{bitAnd}
 use lib.ListN.{length, getD, drop}
 use lib.Seq.{drop-cons}
 use Rattle.receiver.specs.declared.Stage.the-variants.{Receiving}
@@ -21,7 +21,7 @@ use Rattle.fast.specs.declared.Fed.{Fed}
 use Rattle.fast.specs.Fast.{eightAt, rises, risesAt, Passed}
 use Rattle.fast.proofs.Rises.{rises-add, rises-at, rises-small}
 use Rattle.fast.proofs.Waits.{passes}
-use Rattle.fast.proofs.Bytes.{num, same, Small, Calm, calm-none, calm-more, calm, bit5, highs, high-bits, stays, rose, counted, enough, first, rises-few}
+use Rattle.fast.proofs.Bytes.{num, same, Small, Calm, calm-none, calm-more, calm, highs, high-bits, rose, counted, enough, first, rises-few}
 
 -- the lines after some writes
 unfoldable lastHigh : Bool → List ℕ → Bool

@@ -2,24 +2,23 @@
 use mathlib.Core.Path.{_≡_, refl, sym, ap, _∙_}
 use mathlib.Core.Bool.{Bool, true, false, not, _&&_, cond}
 use mathlib.Core.List.{List, _∷_}
-use Prim.Native.Nat.{ℕ, zero, suc, _+_, _/_, _%_, _<_, _≤_}
+use Prim.Native.Nat.{ℕ, zero, suc, _+_, _/_, _%_, _<_}
 use native.Mathlib.Nat.{mod-lt}
 use native.Mathlib.Numerals.{add-one}
 use native.Mathlib.Omega.{arith}
 use lib.Bits.{bitAnd}
-use lib.Dec.{eqb, lit<, lit≤}
+use lib.Dec.{eqb, lit<}
 use lib.ListN.{length, getD, drop}
 use lib.Seq.{drop-cons}
 use borrow.Author.Tests.{eqb-true, eqb-false}
 use Rattle.bits.specs.Bit.{bitOf}
-use Rattle.bits.proofs.Tests.{either}
 use Rattle.receiver.specs.declared.Stage.{Stage}
 use Rattle.receiver.specs.declared.Stage.the-variants.{Idle, Receiving, Awaiting}
 use Rattle.receiver.specs.declared.Receiver.{Receiver}
 use Rattle.receiver.specs.Lines.{Pulse, p15High, bothHigh, pulseOf, indexed}
 use Rattle.receiver.specs.Receive.{Rx, Step, rxOf, Sound, quiet, written, stageNumber}
 use Rattle.receiver.specs.Store.{filed, packetsOf}
-use Rattle.receiver.specs.Port.{Port, stepAt}
+use Rattle.receiver.specs.Port.{Port}
 use Rattle.receiver.proofs.Pulses.{Low, is-release, is-low, on-release, low-idle, low-awaiting}
 use Rattle.run.specs.Run.{lined, onward, runs, portOf}
 use Rattle.run.specs.declared.Lines.{Lines}
@@ -93,11 +92,6 @@ module _ (mask i : ℕ) (rx : Receiver) (l : Lines) (ws : List ℕ) (h : i < len
             ∙ passes mask i (l .index) (rxOf rx) (l .p15) (l .both) s (getD ws i 0) (drop (suc i) ws) f g
             ∙ ap (λ (j : ℕ). runs mask j (indexed (l .index) mask (l .p15) (getD ws i 0)) (portOf rx (beyond .lines) s) (drop j ws)) (sym (add-one i));
       }
-
--- a write rises once at most
-pub at-most-one : (was : Bool) (v : ℕ) → risesAt was v ≤ 1
-unfolding risesAt
-at-most-one was v = either (λ (n : ℕ). n ≤ 1) (p15High v && not was) (λ e. lit≤ tt) (λ e. lit≤ tt)
 
 -- P15 was high; or it was low, and bit 5 tells
 pub stays-high : (v : ℕ) → risesAt true v ≡ 0

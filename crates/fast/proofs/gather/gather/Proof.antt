@@ -56,16 +56,16 @@ shl-word c = c .before .before .before .loop-test .taken
 cast-ones : tie.Need-cast-ones Inv-loop μ-loop
 cast-ones c =
     let at = c .before .before .before .before .loop in
-    let ws = c .before .before .before .before .before .before .before .args .writes .now in
-    let p = parts ws (c .before .before .before .before .before .before .before .args .from) (at .word) (at .count) (at .ones) (at .i) (c .before .before .eight .result) (at .inv) (c .before .before .before .loop-test .taken)
-    (λ (j : ℕ). c .before .before .before .before .before .before .shared-slice-known .given j .fits) (c .before .before .eight .ensures) (c .before .if2 .left) (c .if3 .left) in omega (arith, p .1, at .inv .ones-few, at .inv .few)
+    let x = c .before .before .eight in
+    let p = parts (c .before .before .before .before .before .before .before .args .writes .now) (at .i) (x .result) (λ (j : ℕ). c .before .before .before .before .before .before .shared-slice-known .given j .fits) (x .ensures) in
+    omega (arith, p .1)
 
 add-ones : tie.Need-add-ones Inv-loop μ-loop
 add-ones c =
     let at = c .before .before .before .before .loop in
-    let ws = c .before .before .before .before .before .before .before .args .writes .now in
-    let p = parts ws (c .before .before .before .before .before .before .before .args .from) (at .word) (at .count) (at .ones) (at .i) (c .before .before .eight .result) (at .inv) (c .before .before .before .loop-test .taken)
-    (λ (j : ℕ). c .before .before .before .before .before .before .shared-slice-known .given j .fits) (c .before .before .eight .ensures) (c .before .if2 .left) (c .if3 .left) in omega (arith, p .1, at .inv .ones-few, at .inv .few)
+    let x = c .before .before .eight in
+    let p = parts (c .before .before .before .before .before .before .before .args .writes .now) (at .i) (x .result) (λ (j : ℕ). c .before .before .before .before .before .before .shared-slice-known .given j .fits) (x .ensures) in
+    omega (arith, p .1, at .inv .ones-few, at .inv .few)
 
 add-count : tie.Need-add-count Inv-loop μ-loop
 add-count c = omega arith

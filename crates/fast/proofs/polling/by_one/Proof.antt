@@ -1,9 +1,8 @@
 -- Each write up to the next start pulse is passed by.
 use borrow.Author.Needs.{needs}
-use mathlib.Core.Path.{_≡_, sym}
-use Prim.Native.Nat.{ℕ, _-_, _<_}
+use Prim.Native.Nat.{_-_}
 use native.Mathlib.Omega.{arith}
-use lib.ListN.{length, getD}
+use lib.ListN.{length}
 use Rattle.fast.specs.Fast.{Passed}
 use Rattle.fast.proofs.Passes.{stay, then}
 use Rattle.fast.proofs.Waits.{passed-one}
