@@ -3,19 +3,19 @@ use Prim.Native.Nat.{_+_, _-_, _<_, _≤_}
 use mathlib.Core.Path.{_≡_, _∙_}
 use native.Mathlib.Omega.{arith}
 use lib.ListN.{length}
-use Rattle.line.proofs.Splitting.{lf-found, split-long, split-full, split-copied}
+use Rattle.line.proofs.Splitting.{split-long, split-full, split-copied}
 use borrow.Author.Needs.{needs}
 use Rattle.line.proofs.lines.split.Statement.{statement}
 use Rattle.line.proofs.lines.split.Tie as tie
 
-find-requires : tie.Need-find-requires
-find-requires c κs = search needs
+find-lf-requires : tie.Need-find-lf-requires
+find-lf-requires c κs = search needs
 
 returns : tie.Need-returns
 returns c =
     let start = c .before .before .before .before .args in
-    let f = c .before .find in
-    let at = lf-found (start .chunk .now) (start .at) (f .result) (f .ensures .0) in
+    let f = c .before .find-lf in
+    let at = f .ensures .0 in
     split-long (start .held) (start .chunk .now) (start .line .now) (start .at) (f .result) at (c .if1 .taken)
 
 sub-if2 : tie.Need-sub-if2
@@ -27,8 +27,8 @@ sub-if2-2 c = search needs
 returns-2 : tie.Need-returns-2
 returns-2 c =
     let start = c .before .before .before .before .before .args in
-    let f = c .before .before .find in
-    let at = lf-found (start .chunk .now) (start .at) (f .result) (f .ensures .0) in
+    let f = c .before .before .find-lf in
+    let at = f .ensures .0 in
     split-full (start .held) (start .chunk .now) (start .line .now) (start .at) (f .result) at (c .before .if1 .left) (omega arith)
 
 sub-put : tie.Need-sub-put
@@ -46,8 +46,8 @@ put-requires c κs = search needs
 sub-t10 : tie.Need-sub-t10
 sub-t10 c = search needs
 
-add-t7 : tie.Need-add-t7
-add-t7 c = search needs
+add-t9 : tie.Need-add-t9
+add-t9 c = search needs
 
 same-length : tie.Need-same-length
 same-length c = search needs
@@ -55,8 +55,8 @@ same-length c = search needs
 returns-3 : tie.Need-returns-3
 returns-3 c =
     let start = c .before .before .before .before .before .before .before .before .before .before .args in
-    let f = c .before .before .before .before .before .before .before .find in
-    let at = lf-found (start .chunk .now) (start .at) (f .result) (f .ensures .0) in
+    let f = c .before .before .before .before .before .before .before .find-lf in
+    let at = f .ensures .0 in
     split-copied (start .held) (start .chunk .now) (start .line .now) (start .at) (f .result) at _ (c .before .before .before .before .before .before .if1 .left) (omega arith)
     (c .before .before .put .ensures)
 
@@ -64,7 +64,7 @@ pub split-spec : {M : Type 1} → statement M
 split-spec =
     tie.close
     (tie.spec
-    find-requires
+    find-lf-requires
     returns
     sub-if2
     sub-if2-2
@@ -74,6 +74,6 @@ split-spec =
     part-put-end
     put-requires
     sub-t10
-    add-t7
+    add-t9
     same-length
     returns-3)
