@@ -1,25 +1,39 @@
 -- A list has nothing but zeros exactly if each element is zero.
-use mathlib.Core.Path.{_≡_, refl, sym, ap, _∙_}
+use mathlib.Core.Path.{_≡_, refl, sym}
 use mathlib.Core.Bool.{Bool, true, false, _&&_}
 use mathlib.Core.List.{List, [], _∷_}
-use Prim.Native.Nat.{ℕ, zero, suc, _<_, zero-le, suc-le-suc}
-use native.Mathlib.Nat.{not-suc-le-zero, le-of-suc-le-suc}
-use borrow.Author.Tests.{eq-eqb, ne-eqb, eqb-true}
-use lib.ListN.{length, getD, drop, replicate}
+use Prim.Native.Nat.{ℕ, zero, suc, _+_, _≤_, _<_, zero-le, suc-le-suc}
+use native.Mathlib.Numerals.{add-one}
+use native.Mathlib.Omega.{arith}
+use borrow.Author.Tests.{eq-eqb, ne-eqb, eqb-true, eqb-false}
+use lib.Bits.{bitOr, or-add-and, and-le-l, and-le-r}
+use lib.ListN.{length, getD, drop, replicate, drop-of-length-le}
+use lib.Seq.{drop-cons}
 use lib.Dec.{eqb}
 use Rattle.bits.specs.Zero.{zeros}
-use Rattle.bits.proofs.Tests.{and-left, and-right, and-false}
+use Rattle.bits.proofs.Tests.{and-left, and-right, and-assoc, and-yes}
 
 pub zeros-all : (l : List ℕ) → ((k : ℕ) → k < length l → getD l k 0 ≡ 0) → true ≡ zeros l
 unfolding zeros
 zeros-all [] h = refl
 zeros-all (x ∷ xs) h = simp (eq-eqb x 0 (h 0 (suc-le-suc zero-le))) (zeros-all xs (λ k lt. h (suc k) (suc-le-suc lt)))
 
-pub zeros-not : (l : List ℕ) (k : ℕ) → k < length l → (getD l k 0 ≡ 0 → ⊥) → false ≡ zeros l
+-- ---- a turn of the loop that looks at all of them, and its end
+
+or-zero : (a b : ℕ) → eqb (bitOr a b) 0 ≡ (eqb a 0 && eqb b 0)
+or-zero a b = go (eqb a 0) (eqb b 0) refl refl where
+  go : (t u : Bool) → eqb a 0 ≡ t → eqb b 0 ≡ u → eqb (bitOr a b) 0 ≡ (t && u)
+  go true true e f = eq-eqb (bitOr a b) 0 (omega (arith, or-add-and a b, eqb-true a 0 e, eqb-true b 0 f))
+  go true false e f = ne-eqb (bitOr a b) 0 (λ z. eqb-false b 0 f (omega (arith, z, or-add-and a b, and-le-l a b)))
+  go false u e f = ne-eqb (bitOr a b) 0 (λ z. eqb-false a 0 e (omega (arith, z, or-add-and a b, and-le-r a b)))
+
+pub zeros-turn : (s : List ℕ) (i all : ℕ) → i < length s → (eqb all 0 && zeros (drop i s)) ≡ (eqb (bitOr all (getD s i 0)) 0 && zeros (drop (i + 1) s))
 unfolding zeros
-zeros-not [] k h n = absurd (not-suc-le-zero h)
-zeros-not (x ∷ xs) zero h n = simp (ne-eqb x 0 n)
-zeros-not (x ∷ xs) (suc k) h n = sym (and-false (eqb x 0)) ∙ ap (λ (t : Bool). eqb x 0 && t) (zeros-not xs k (le-of-suc-le-suc h) n)
+zeros-turn s i all h = rw (add-one, drop-cons s i 0 h, or-zero) (sym (and-assoc (eqb all 0) (eqb (getD s i 0) 0) (zeros (drop (suc i) s))))
+
+pub zeros-end : (s : List ℕ) (i all : ℕ) → length s ≤ i → (eqb all 0 && zeros (drop i s)) ≡ eqb all 0
+unfolding zeros
+zeros-end s i all h = rw (drop-of-length-le s {i = i} h) (and-yes (eqb all 0))
 
 -- nothing but zeros is so many zeros, and so many zeros are nothing else
 pub zeros-replicate : (l : List ℕ) → zeros l ≡ true → replicate (length l) 0 ≡ l

@@ -11,7 +11,7 @@ use lib.Bits.{bitAnd, and-zero-r, and-mask, and-high, and-le-r, and-block}
 use lib.ListN.{length, getD}
 use Rattle.bits.specs.Bit.{bitOf}
 use Rattle.receiver.specs.Lines.{p15High}
-use Rattle.fast.specs.Fast.{risesAt}
+use Rattle.fast.proofs.Rises.{risesAt}
 use Rattle.fast.proofs.Waits.{stays-high, risen-by}
 
 unfoldable pub num : List ℕ → ℕ

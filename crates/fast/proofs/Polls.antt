@@ -18,8 +18,8 @@ use Rattle.run.specs.Run.{runs, portOf}
 use Rattle.run.specs.declared.Lines.{Lines}
 use Rattle.run.proofs.Turns.{port}
 use Rattle.fast.specs.declared.Fed.{Fed}
-use Rattle.fast.specs.Fast.{eightAt, rises, risesAt, Passed}
-use Rattle.fast.proofs.Rises.{rises-add, rises-at, rises-small}
+use Rattle.fast.specs.Fast.{eightAt, rises, Passed}
+use Rattle.fast.proofs.Rises.{risesAt, rises-add, rises-at, rises-small}
 use Rattle.fast.proofs.Waits.{passes}
 use Rattle.fast.proofs.Bytes.{num, same, Small, Calm, calm-none, calm-more, calm, highs, high-bits, rose, counted, enough, first, rises-few}
 

@@ -7,7 +7,11 @@ use native.Mathlib.Omega.{arith}
 use mathlib.Core.Bool.{Bool, true, false, not, _&&_, cond}
 use lib.Bits.{bitAnd, and-mask, and-high, and-le-r}
 use Rattle.receiver.specs.Lines.{p15High, indexed}
-use Rattle.fast.specs.Fast.{rises, risesAt}
+use Rattle.fast.specs.Fast.{rises}
+
+-- how often P15 rises at a write of v: `was` is whether it was high before
+unfoldable pub risesAt : Bool → ℕ → ℕ
+risesAt was v = cond (p15High v && not was) 1 0
 
 pub rises-add : (n o x mask : ℕ) → rises n (rises o x mask) mask ≡ rises (o + n) x mask
 unfolding rises

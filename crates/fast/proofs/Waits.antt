@@ -1,6 +1,6 @@
 -- While no packet is coming in, a write that is no start pulse leaves the receiver and its store as they are.
 use mathlib.Core.Path.{_≡_, refl, sym, ap, _∙_}
-use mathlib.Core.Bool.{Bool, true, false, not, _&&_, cond}
+use mathlib.Core.Bool.{Bool, true, false, _&&_, cond}
 use mathlib.Core.List.{List, _∷_}
 use Prim.Native.Nat.{ℕ, zero, suc, _+_, _/_, _%_, _<_}
 use native.Mathlib.Nat.{mod-lt}
@@ -24,7 +24,8 @@ use Rattle.run.specs.Run.{lined, onward, runs, portOf}
 use Rattle.run.specs.declared.Lines.{Lines}
 use Rattle.run.proofs.Turns.{port, index-small}
 use Rattle.fast.specs.declared.Fed.{Fed}
-use Rattle.fast.specs.Fast.{risesAt, Passed}
+use Rattle.fast.specs.Fast.{Passed}
+use Rattle.fast.proofs.Rises.{risesAt}
 
 -- the stage by its number
 pub receives : (t : Stage) → stageNumber t ≡ 1 → t ≡ Receiving

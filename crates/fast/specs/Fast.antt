@@ -2,7 +2,7 @@
 -- Pan Docs, Command packet transfers: a data pulse is one line low, and after it both go high.
 use Prim.Native.Nat.{ℕ, zero, suc, _+_, _*_, _^_, _<_, _≤_}
 use mathlib.Core.Path.{_≡_}
-use mathlib.Core.Bool.{Bool, true, not, _&&_, cond}
+use mathlib.Core.Bool.{true}
 use mathlib.Core.List.{List}
 use lib.Bits.{bitAnd}
 use lib.ListN.{length, getD, drop}
@@ -21,10 +21,6 @@ unfoldable pub eightAt : List ℕ → ℕ → ℕ
 eightAt w i =
     getD w i 0 + getD w (i + 1) 0 * 256 + getD w (i + 2) 0 * 65536 + getD w (i + 3) 0 * 16777216 + getD w (i + 4) 0 * 4294967296
     + getD w (i + 5) 0 * 1099511627776 + getD w (i + 6) 0 * 281474976710656 + getD w (i + 7) 0 * 72057594037927936
-
--- how often P15 rises at a write of v: `was` is whether it was high before
-unfoldable pub risesAt : Bool → ℕ → ℕ
-risesAt was v = cond (p15High v && not was) 1 0
 
 -- the joypad index after P15 rose n times
 unfoldable pub rises : ℕ → ℕ → ℕ → ℕ

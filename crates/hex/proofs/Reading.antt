@@ -13,7 +13,7 @@ use lib.Bits.{bitOr, or-lt, or-add-and, and-le-l, and-le-r}
 use lib.Dec.{ltb}
 use lib.ListN.{length, getD, set, drop, drop-of-length-le}
 use lib.Seq.{drop-cons, paste, paste-suc}
-use Rattle.bits.proofs.Tests.{and-left, and-right}
+use Rattle.bits.proofs.Tests.{and-left, and-right, and-assoc, and-yes}
 use Rattle.hex.specs.Hex.{nibble, before, paired, bytesOf, present, orEmpty, spells, spelled}
 
 -- ---- when digits spell bytes
@@ -70,14 +70,6 @@ or-below a b = go (ltb a 16) (ltb b 16) refl refl where
   go true true e f = lt-ltb _ _ (or-lt 4 a b (ltb-true a 16 e) (ltb-true b 16 f))
   go true false e f = let h : 16 ≤ b = ltb-false b 16 f in le-ltb (bitOr a b) 16 (omega (arith, or-add-and a b, and-le-l a b))
   go false u e f = let h : 16 ≤ a = ltb-false a 16 e in le-ltb (bitOr a b) 16 (omega (arith, or-add-and a b, and-le-r a b))
-
-and-assoc : (a b c : Bool) → (a && b && c) ≡ (a && (b && c))
-and-assoc true b c = refl
-and-assoc false b c = refl
-
-and-yes : (a : Bool) → (a && true) ≡ a
-and-yes true = refl
-and-yes false = refl
 
 -- a turn of the loop that looks at all digits, and its end
 pub digits-turn : (s : List ℕ) (i all v : ℕ) → i < length s → v ≡ nibble (getD s i 0)

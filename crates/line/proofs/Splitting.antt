@@ -7,8 +7,8 @@ use mathlib.Core.List.{List, [], _∷_, _++_, append-assoc}
 use native.Mathlib.Omega.{arith}
 use borrow.Author.Tests.{le-leb, lt-leb, leb-true, leb-false, eqb-true}
 use lib.Dec.{leb, eqb}
-use lib.ListN.{length, take, drop, length-append, length-take, length-drop, take-append-drop}
-use lib.Seq.{take-length, take-all, take-at, drop-drop, length-take-le}
+use lib.ListN.{length, take, drop, getD, length-append, length-take, length-drop, take-append-drop}
+use lib.Seq.{take-length, take-all, take-at, drop-cons, drop-drop, length-take-le}
 use Rattle.bits.specs.Over.{over}
 use Rattle.bits.proofs.Overs.{length-over}
 use Rattle.bytes.specs.Bytes.{indexOf, indexAfter}
@@ -172,6 +172,27 @@ held-nothing h line t n = rw (t, n)
 pub lf-found : (chunk : List ℕ) (at e : ℕ) → e ≡ at + indexOf 10 (Bytes·slice at (length chunk) chunk) → e ≡ lfAt chunk at
 unfolding lfAt Bytes·slice
 lf-found chunk at e found = found ∙ ap (λ (l : List ℕ). at + indexOf 10 (drop at l)) (take-length chunk)
+
+pub lf-from : (chunk : List ℕ) (at : ℕ) → at ≤ lfAt chunk at
+unfolding lfAt
+lf-from chunk at = omega arith
+
+-- a byte that is no LF goes by
+lf-past : (chunk : List ℕ) (k : ℕ) → k < length chunk → eqb (getD chunk k 0) 10 ≡ false → lfAt chunk k ≡ lfAt chunk (k + 1)
+unfolding lfAt indexOf indexAfter
+lf-past chunk k h e =
+    let m : ℕ = indexOf 10 (drop (suc k) chunk) in
+    let s : k + suc m ≡ suc k + m = omega arith in
+    ap (λ (l : List ℕ). k + indexOf 10 l) (drop-cons chunk k 0 h)
+    ∙ ap (λ (t : Bool). k + indexAfter t m) e
+    ∙ s
+    ∙ ap (λ (n : ℕ). n + indexOf 10 (drop n chunk)) (sym (add-one k))
+
+pub lf-turn : (chunk : List ℕ) (at j n x : ℕ) → at + j < length chunk → (x ≡ 0 → eqb (getD chunk (at + j) 0) 10 ≡ false)
+    → (n ≡ 0 → lfAt chunk at ≡ lfAt chunk (at + j)) → n + x ≡ 0 → lfAt chunk at ≡ lfAt chunk (at + (j + 1))
+lf-turn chunk at j n x h f g e =
+    let s : at + j + 1 ≡ at + (j + 1) = omega arith in
+    g (omega (arith, e)) ∙ lf-past chunk (at + j) h (f (omega (arith, e))) ∙ ap (lfAt chunk) s
 
 module _ (h : Held) (chunk line : List ℕ) (at e : ℕ) (found : e ≡ lfAt chunk at) where
   taken-count : length (upToLf (drop at chunk)) ≡ e - at

@@ -1,19 +1,19 @@
 -- `line::lines::split` meets its contract: what comes up to the next LF is copied behind what is held, if all of it has room.
 use Prim.Native.Nat.{_-_}
 use native.Mathlib.Omega.{arith}
-use Rattle.line.proofs.Splitting.{lf-found, split-long, split-full, split-copied}
+use Rattle.line.proofs.Splitting.{split-long, split-full, split-copied}
 use borrow.Author.Needs.{needs}
 use Rattle.line.proofs.lines.split.Statement.{statement}
 use Rattle.line.proofs.lines.split.Tie as tie
 
-find-requires : tie.Need-find-requires
-find-requires c κs = search needs
+find-lf-requires : tie.Need-find-lf-requires
+find-lf-requires c κs = search needs
 
 returns : tie.Need-returns
 returns c =
     let start = c .before .before .before .before .args in
-    let f = c .before .find in
-    let at = lf-found (start .chunk .now) (start .at) (f .result) (f .ensures .0) in
+    let f = c .before .find-lf in
+    let at = f .ensures .0 in
     split-long (start .held) (start .chunk .now) (start .line .now) (start .at) (f .result) at (c .if1 .taken)
 
 sub-if2 : tie.Need-sub-if2
@@ -25,8 +25,8 @@ sub-if2-2 c = search needs
 returns-2 : tie.Need-returns-2
 returns-2 c =
     let start = c .before .before .before .before .before .args in
-    let f = c .before .before .find in
-    let at = lf-found (start .chunk .now) (start .at) (f .result) (f .ensures .0) in
+    let f = c .before .before .find-lf in
+    let at = f .ensures .0 in
     split-full (start .held) (start .chunk .now) (start .line .now) (start .at) (f .result) at (c .before .if1 .left) (omega arith)
 
 sub-put : tie.Need-sub-put
@@ -44,8 +44,8 @@ put-requires c κs = search needs
 sub-t10 : tie.Need-sub-t10
 sub-t10 c = search needs
 
-add-t7 : tie.Need-add-t7
-add-t7 c = search needs
+add-t9 : tie.Need-add-t9
+add-t9 c = search needs
 
 same-length : tie.Need-same-length
 same-length c = search needs
@@ -53,8 +53,8 @@ same-length c = search needs
 returns-3 : tie.Need-returns-3
 returns-3 c =
     let start = c .before .before .before .before .before .before .before .before .before .before .args in
-    let f = c .before .before .before .before .before .before .before .find in
-    let at = lf-found (start .chunk .now) (start .at) (f .result) (f .ensures .0) in
+    let f = c .before .before .before .before .before .before .before .find-lf in
+    let at = f .ensures .0 in
     split-copied (start .held) (start .chunk .now) (start .line .now) (start .at) (f .result) at _ (c .before .before .before .before .before .before .if1 .left) (omega arith)
     (c .before .before .put .ensures)
 
@@ -62,7 +62,7 @@ pub split-spec : {M : Type 1} → statement M
 split-spec =
     tie.close
     (tie.spec
-    find-requires
+    find-lf-requires
     returns
     sub-if2
     sub-if2-2
@@ -72,6 +72,6 @@ split-spec =
     part-put-end
     put-requires
     sub-t10
-    add-t7
+    add-t9
     same-length
     returns-3)
