@@ -14,6 +14,7 @@ pub fn run(ctx: &mut Ctx) {
     every_difference(ctx);
     fresh_blocks(ctx);
     every_class(ctx);
+    every_mark(ctx);
     every_clause(ctx);
     every_command(ctx);
     steps_stay_valid(ctx);
@@ -46,16 +47,17 @@ fn fresh_blocks(ctx: &mut Ctx) {
     }
 }
 
+/// The classes that V1 to V6 allow.
+fn allowed(ctx: &mut Ctx) -> BTreeSet<Class> {
+    let mut classes = Class::all();
+    classes.retain(|class| valid::check(&generate::block_of(&mut ctx.rng, *class)).is_ok());
+    classes.into_iter().collect()
+}
+
 /// Load, then save, is the identity, and each class that V1 to V6 allow is reached.
 fn every_class(ctx: &mut Ctx) {
     let mut reached = BTreeSet::new();
-    let mut allowed = BTreeSet::new();
-    for class in Class::all() {
-        let b = generate::block_of(&mut ctx.rng, class);
-        if valid::check(&b).is_ok() {
-            allowed.insert(class);
-        }
-    }
+    let allowed = allowed(ctx);
     let mut identity = |ctx: &mut Ctx, b: Vec<u8>| {
         reached.insert(Class::of(&b));
         ctx.try_on(Block(b), |b| {
@@ -82,6 +84,25 @@ fn every_class(ctx: &mut Ctx) {
         reached.len(),
         allowed.len()
     ));
+}
+
+/// Random blocks by themselves have each mask with and without a frozen capture, each stage, and each transfer at each countdown.
+fn every_mark(ctx: &mut Ctx) {
+    let marks = |class: Class| {
+        [
+            format!("mask {}, frozen: {}", class.mask, class.frozen),
+            format!("{:?}", class.stage),
+            format!("preset: {}", class.preset),
+            format!("pending {:?}", class.pending),
+        ]
+    };
+    let due: BTreeSet<String> = allowed(ctx).into_iter().flat_map(marks).collect();
+    let blocks = (0..1000).map(|_| generate::block(&mut ctx.rng));
+    let drawn: BTreeSet<String> = blocks.flat_map(|b| marks(Class::of(&b))).collect();
+    ctx.check(drawn == due, || {
+        let missed: Vec<_> = due.symmetric_difference(&drawn).collect();
+        format!("random blocks lack {missed:?}")
+    });
 }
 
 /// Each clause of V1 to V6 is what refuses some block that is nearly valid.
