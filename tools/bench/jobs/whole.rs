@@ -49,6 +49,13 @@ pub fn jobs() -> Vec<Job> {
     ]
 }
 
+/// A call on the log and on parts of the desk, each lent as a pointer and a length.
+macro_rules! lent {
+    ($call:ident, $log:ident, $desk:ident, $($part:ident)*) => {
+        $call($log.as_ptr(), $log.len(), $($desk.$part.as_mut_ptr(), $desk.$part.len()),*)
+    };
+}
+
 /// What a program holds.
 struct Desk {
     block: Vec<u8>,
@@ -73,47 +80,11 @@ impl Desk {
 
     /// The text of the plate or of the replay.
     fn run(&mut self, log: &[u8], plate: bool) -> &[u8] {
-        let Desk {
-            block: b,
-            line: l,
-            bytes: y,
-            command: c,
-            words: w,
-            text: t,
-        } = self;
         let size = unsafe {
             if plate {
-                probe_plate(
-                    log.as_ptr(),
-                    log.len(),
-                    b.as_mut_ptr(),
-                    b.len(),
-                    l.as_mut_ptr(),
-                    l.len(),
-                    y.as_mut_ptr(),
-                    y.len(),
-                    c.as_mut_ptr(),
-                    c.len(),
-                    w.as_mut_ptr(),
-                    w.len(),
-                    t.as_mut_ptr(),
-                    t.len(),
-                )
+                lent!(probe_plate, log, self, block line bytes command words text)
             } else {
-                probe_replay(
-                    log.as_ptr(),
-                    log.len(),
-                    b.as_mut_ptr(),
-                    b.len(),
-                    l.as_mut_ptr(),
-                    l.len(),
-                    y.as_mut_ptr(),
-                    y.len(),
-                    c.as_mut_ptr(),
-                    c.len(),
-                    t.as_mut_ptr(),
-                    t.len(),
-                )
+                lent!(probe_replay, log, self, block line bytes command text)
             }
         };
         &self.text[..size]
