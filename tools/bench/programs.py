@@ -43,18 +43,22 @@ class Watch:
         self.words = [compiled("watch")]
         self.told = os.path.join(OUT, "watched")
 
-    def run(self, words, log, *settings):
-        """What watch.c tells of a run on a log, as numbers; and that it ended well."""
-        with open(log, "rb") as stdin:
-            must([*self.words, *settings, self.told, *words], stdin=stdin, stdout=subprocess.DEVNULL)
+    def run(self, words, settings=(), stdin=SAMPLE, stdout=os.devnull):
+        """What watch.c tells of a run on these files, as numbers. What the program says is not shown, and it has to end with status 0."""
+        given = os.open(stdin, os.O_RDONLY)
+        try:
+            with open(stdout, "wb") as wrote:
+                must([*self.words, *settings, self.told, *words], stdin=given, stdout=wrote, stderr=subprocess.DEVNULL)
+        finally:
+            os.close(given)
         with open(self.told) as told:
             return [float(word) for word in told.read().split()]
 
-    def stack(self, words, log):
-        return int(self.run(words, log, "--stack")[0])
+    def stack(self, words, **files):
+        return int(self.run(words, ["--stack"], **files)[0])
 
     def time_and_memory(self, words, log):
-        return self.run(words, log)
+        return self.run(words, stdin=log)
 
 
 def end(missed):

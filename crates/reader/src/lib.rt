@@ -30,13 +30,20 @@ pub struct Fed {
     pub state: State,
 }
 
-// Writes all of a text, or says that it could not.
+// Writes all of a text, or says that it could not. By its own loop: `io::write_all` holds 4,096 bytes for a write that comes short, which
+// would stand on the stack beneath the program's buffers.
 pub fn write_out(text: &[u8]) -> bool {
-    if io::write_all(STDOUT_FILENO, text) {
-        return true;
+    let mut done: usize = 0;
+    while done < text.len() {
+        let rest = &text[done..];
+        let n = io::count(libc::write(STDOUT_FILENO, rest), rest);
+        if n == 0 {
+            os::fail(b"write");
+            return false;
+        }
+        done += n;
     }
-    os::fail(b"write");
-    false
+    true
 }
 
 // All of a log, from a fresh unit on. A proved loop has to end, and nothing says that an input does: the turns are more than a machine
@@ -66,7 +73,7 @@ pub fn read_log(
             return f;
         }
     }
-    // by the bare call: `io::write_all` holds 4,096 bytes for a write that comes short, and they would stand on the programs' stack
+    // by the bare call, as for `write_out`
     libc::write(STDERR_FILENO, b"the input does not end\n");
     Fed {
         reading: reading,

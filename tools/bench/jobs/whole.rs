@@ -44,8 +44,8 @@ type Driver = fn(&mut dyn BufRead, &mut dyn Write) -> io::Result<()>;
 
 pub fn jobs() -> Vec<Job> {
     vec![
-        job("whole job, sample log to plate", true, driver::plate),
-        job("whole job, sample log to replay", false, driver::replay),
+        job("whole job, sample log to plate", 0.4, true, driver::plate),
+        job("whole job, sample log to replay", 1.0, false, driver::replay),
     ]
 }
 
@@ -91,14 +91,14 @@ impl Desk {
     }
 }
 
-fn job(name: &'static str, plate: bool, driver: Driver) -> Job {
+fn job(name: &'static str, limit: f64, plate: bool, driver: Driver) -> Job {
     let mut desk = Desk::new();
     let mut text = Vec::with_capacity(224 * 1025);
     driver(&mut &SAMPLE[..], &mut text).unwrap();
     assert!(desk.run(SAMPLE, plate) == text, "the texts differ");
     Job {
         name,
-        limit: 0.4,
+        limit,
         port: Box::new(move || each(1, |_| desk.run(black_box(SAMPLE), plate).len())),
         rust: Box::new(move || {
             each(1, |_| {
