@@ -28,7 +28,7 @@ pub extern "C" fn probe_show(block: &mut [u8], screen: &[u8]) -> u8
 
 // Up to the next command: how many writes it took, and in the high byte the packets of the command.
 #[no_mangle]
-pub extern "C" fn probe_play(block: &mut [u8], writes: &[u8], command: &mut [u8]) -> u64
+pub extern "C" fn probe_play_valid(block: &mut [u8], writes: &[u8], command: &mut [u8]) -> u64
     requires { ⌜ Valid (now block) × (storeBytes ≤ length (now command)) ⌝ }
 {
     let p = play::play(block, writes, command);
