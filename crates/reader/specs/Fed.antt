@@ -10,10 +10,10 @@ use Rattle.reader.specs.declared.Fed.{Fed}
 
 -- the bytes of a read, and of the text between two writes
 abbrev pub chunkBytes : ℕ
-chunkBytes = 2048
+chunkBytes = 1024
 
 abbrev pub outBytes : ℕ
-outBytes = 2048
+outBytes = 1280
 
 -- as far as lines are counted before a read: what one more chunk brings then stays below 2^64
 abbrev pub mostLines : ℕ

@@ -12,9 +12,9 @@ use libc::STDOUT_FILENO;
 use log::Reading;
 
 // The bytes of a read, and of the text between two writes. Small, since they stand on the stack.
-pub const CHUNK_BYTES: usize = 2048;
+pub const CHUNK_BYTES: usize = 1024;
 
-pub const OUT_BYTES: usize = 2048;
+pub const OUT_BYTES: usize = 1280;
 
 // More may come; the input has ended and all is told; a read or a write failed, which has been said; a quiet reading came to a refused
 // line, the one before the reading's next.

@@ -3,11 +3,12 @@ use mathlib.Core.Path.{_≡_, _∙_}
 use Prim.Native.Nat.{_-_, _≤_}
 use native.Mathlib.Omega.{arith}
 use lib.ListN.{length}
+use Rattle.reader.specs.Fed.{outBytes}
 use Rattle.plate.proofs.rows.Statement.{statement}
 use Rattle.plate.proofs.rows.Tie as tie
 
 abbrev Inv-loop : tie.InvT-loop
-Inv-loop block words₀ out₀ y₀ words out y = (y ≤ 224) × ((length words ≡ 256) × (length out ≡ 2048))
+Inv-loop block words₀ out₀ y₀ words out y = (y ≤ 224) × ((length words ≡ 256) × (length out ≡ outBytes))
 
 abbrev μ-loop : tie.MeasureT-loop
 μ-loop block words₀ out₀ y₀ words out y = 224 - y

@@ -6,6 +6,7 @@ use native.Mathlib.Omega.{arith}
 use borrow.Author.Needs.{needs}
 use lib.ListN.{length, take, drop, length-take, length-drop}
 use Rattle.log.specs.Steps.{desk, left}
+use Rattle.reader.specs.Fed.{outBytes}
 use Rattle.reader.proofs.Feeding.{boot-fit}
 use Rattle.log.specs.declared.Reading.{Reading}
 use Rattle.probe.proofs.Chunks.{Stands, part-is, stands-on, ends-within, left-falls}
@@ -80,10 +81,10 @@ fill-requires c κs =
     let start = c .before .before .before .before .before .before .before .before .before .before .before .before .before .before .before .before .before .before .before .before .before in
     let a = c .before .before .before .before .before .before .before .before .before .loop in
     let k = c .before .before .before .before .before .before .chunk-size .result in
-    let room : a .n + 2048 ≤ length (a .text) = omega (arith, (c .before .before .before .before .before .before .before .before .goes-on .ensures (c .before .before .before .before .before .before .before .if1 .taken)) .0, a .inv .0 .roomy, a .inv .1 .1 .1 .1 .1 .1) in
+    let room : a .n + outBytes ≤ length (a .text) = omega (arith, (c .before .before .before .before .before .before .before .before .goes-on .ensures (c .before .before .before .before .before .before .before .if1 .taken)) .0, a .inv .0 .roomy, a .inv .1 .1 .1 .1 .1 .1) in
     let long : a .at + k ≤ length (now (start .args .input)) = omega (arith, c .before .before .before .before .before .before .chunk-size .ensures .0, a .inv .0 .within) in
     let is : length (take (a .at + k - a .at) (drop (a .at) (now (start .args .input)))) ≡ k = part-is (now (start .args .input)) (a .at) k long in
-    let out : length (take (a .n + 2048 - a .n) (drop (a .n) (a .text))) ≡ 2048 = part-is (a .text) (a .n) 2048 room in
+    let out : length (take (a .n + outBytes - a .n) (drop (a .n) (a .text))) ≡ outBytes = part-is (a .text) (a .n) outBytes room in
     (a .inv .0 .fit, ((omega (arith, is, c .before .before .before .before .before .before .chunk-size .ensures .1 .0, a .inv .0 .counted, a .inv .0 .within, start .pre .1), (omega arith, omega (arith, is, c .before .before .before .before .before .before .chunk-size .ensures .1 .0))), omega (arith, out)))
 
 add-at : tie.Need-add-at Inv-loop μ-loop
@@ -91,10 +92,10 @@ add-at c =
     let start = c .before .before .before .before .before .before .before .before .before .before .before .before .before .before .before .before .before .before .before .before .before .before .before .before .before .before .before .before .before .before .before .before .before .before in
     let a = c .before .before .before .before .before .before .before .before .before .before .before .before .before .before .before .before .before .before .before .before .before .before .loop in
     let k = c .before .before .before .before .before .before .before .before .before .before .before .before .before .before .before .before .before .before .before .chunk-size .result in
-    let room : a .n + 2048 ≤ length (a .text) = omega (arith, (c .before .before .before .before .before .before .before .before .before .before .before .before .before .before .before .before .before .before .before .before .before .goes-on .ensures (c .before .before .before .before .before .before .before .before .before .before .before .before .before .before .before .before .before .before .before .before .if1 .taken)) .0, a .inv .0 .roomy, a .inv .1 .1 .1 .1 .1 .1) in
+    let room : a .n + outBytes ≤ length (a .text) = omega (arith, (c .before .before .before .before .before .before .before .before .before .before .before .before .before .before .before .before .before .before .before .before .before .goes-on .ensures (c .before .before .before .before .before .before .before .before .before .before .before .before .before .before .before .before .before .before .before .before .if1 .taken)) .0, a .inv .0 .roomy, a .inv .1 .1 .1 .1 .1 .1) in
     let long : a .at + k ≤ length (now (start .args .input)) = omega (arith, c .before .before .before .before .before .before .before .before .before .before .before .before .before .before .before .before .before .before .before .chunk-size .ensures .0, a .inv .0 .within) in
     let is : length (take (a .at + k - a .at) (drop (a .at) (now (start .args .input)))) ≡ k = part-is (now (start .args .input)) (a .at) k long in
-    let out : length (take (a .n + 2048 - a .n) (drop (a .n) (a .text))) ≡ 2048 = part-is (a .text) (a .n) 2048 room in
+    let out : length (take (a .n + outBytes - a .n) (drop (a .n) (a .text))) ≡ outBytes = part-is (a .text) (a .n) outBytes room in
     let w = ends-within (length (now (start .args .input))) (length (now (start .args .text))) (a .reading) (desk (a .block) (a .line) (a .bytes) (a .command)) (a .at) (a .n) _ _ (c .before .before .before .before .before .before .before .before .before .before .before .before .fill .result) _ _ (a .inv .0) (c .before .before .before .before .before .before .before .before .before .before .before .before .fill .ensures) (omega (arith, is, long)) in
     omega (arith, w, start .pre .1)
 
@@ -106,10 +107,10 @@ add-n c =
     let start = c .before .before .before .before .before .before .before .before .before .before .before .before .before .before .before .before .before .before .before .before .before .before .before .before .before .before .before .before .before .before .before .before .before .before .before in
     let a = c .before .before .before .before .before .before .before .before .before .before .before .before .before .before .before .before .before .before .before .before .before .before .before .loop in
     let k = c .before .before .before .before .before .before .before .before .before .before .before .before .before .before .before .before .before .before .before .before .chunk-size .result in
-    let room : a .n + 2048 ≤ length (a .text) = omega (arith, (c .before .before .before .before .before .before .before .before .before .before .before .before .before .before .before .before .before .before .before .before .before .before .goes-on .ensures (c .before .before .before .before .before .before .before .before .before .before .before .before .before .before .before .before .before .before .before .before .before .if1 .taken)) .0, a .inv .0 .roomy, a .inv .1 .1 .1 .1 .1 .1) in
+    let room : a .n + outBytes ≤ length (a .text) = omega (arith, (c .before .before .before .before .before .before .before .before .before .before .before .before .before .before .before .before .before .before .before .before .before .before .goes-on .ensures (c .before .before .before .before .before .before .before .before .before .before .before .before .before .before .before .before .before .before .before .before .before .if1 .taken)) .0, a .inv .0 .roomy, a .inv .1 .1 .1 .1 .1 .1) in
     let long : a .at + k ≤ length (now (start .args .input)) = omega (arith, c .before .before .before .before .before .before .before .before .before .before .before .before .before .before .before .before .before .before .before .before .chunk-size .ensures .0, a .inv .0 .within) in
     let is : length (take (a .at + k - a .at) (drop (a .at) (now (start .args .input)))) ≡ k = part-is (now (start .args .input)) (a .at) k long in
-    let out : length (take (a .n + 2048 - a .n) (drop (a .n) (a .text))) ≡ 2048 = part-is (a .text) (a .n) 2048 room in
+    let out : length (take (a .n + outBytes - a .n) (drop (a .n) (a .text))) ≡ outBytes = part-is (a .text) (a .n) outBytes room in
     omega (arith, c .kept .ensures, c .before .before .before .before .before .before .before .before .before .before .before .before .before .fill .ensures .fits, out, room, a .inv .1 .0, a .inv .1 .1 .1 .1 .1 .1)
 
 loop-less : tie.Need-loop-less Inv-loop μ-loop
@@ -117,10 +118,10 @@ loop-less c =
     let start = c .before .before .before .before .before .before .before .before .before .before .before .before .before .before .before .before .before .before .before .before .before .before .before .before .before .before .before .before .before .before .before .before .before .before .before in
     let a = c .before .before .before .before .before .before .before .before .before .before .before .before .before .before .before .before .before .before .before .before .before .before .before .loop in
     let k = c .before .before .before .before .before .before .before .before .before .before .before .before .before .before .before .before .before .before .before .before .chunk-size .result in
-    let room : a .n + 2048 ≤ length (a .text) = omega (arith, (c .before .before .before .before .before .before .before .before .before .before .before .before .before .before .before .before .before .before .before .before .before .before .goes-on .ensures (c .before .before .before .before .before .before .before .before .before .before .before .before .before .before .before .before .before .before .before .before .before .if1 .taken)) .0, a .inv .0 .roomy, a .inv .1 .1 .1 .1 .1 .1) in
+    let room : a .n + outBytes ≤ length (a .text) = omega (arith, (c .before .before .before .before .before .before .before .before .before .before .before .before .before .before .before .before .before .before .before .before .before .before .goes-on .ensures (c .before .before .before .before .before .before .before .before .before .before .before .before .before .before .before .before .before .before .before .before .before .if1 .taken)) .0, a .inv .0 .roomy, a .inv .1 .1 .1 .1 .1 .1) in
     let long : a .at + k ≤ length (now (start .args .input)) = omega (arith, c .before .before .before .before .before .before .before .before .before .before .before .before .before .before .before .before .before .before .before .before .chunk-size .ensures .0, a .inv .0 .within) in
     let is : length (take (a .at + k - a .at) (drop (a .at) (now (start .args .input)))) ≡ k = part-is (now (start .args .input)) (a .at) k long in
-    let out : length (take (a .n + 2048 - a .n) (drop (a .n) (a .text))) ≡ 2048 = part-is (a .text) (a .n) 2048 room in
+    let out : length (take (a .n + outBytes - a .n) (drop (a .n) (a .text))) ≡ outBytes = part-is (a .text) (a .n) outBytes room in
     left-falls (length (now (start .args .input))) (length (now (start .args .text))) (a .reading) (desk (a .block) (a .line) (a .bytes) (a .command)) (a .at) (a .n) _ _ (c .before .before .before .before .before .before .before .before .before .before .before .before .before .fill .result) _ _ (a .inv .0) (c .before .before .before .before .before .before .before .before .before .before .before .before .before .fill .ensures) (omega (arith, is, long)) (omega (arith, is, c .before .before .before .before .before .before .before .before .before .before .before .before .before .before .before .before .before .before .before .before .chunk-size .ensures .1 .1)) (omega (arith, out)) ((c .before .before .before .before .before .before .before .before .before .before .before .before .before .before .before .before .before .before .before .before .before .before .goes-on .ensures (c .before .before .before .before .before .before .before .before .before .before .before .before .before .before .before .before .before .before .before .before .before .if1 .taken)) .1)
 
 loop-again : tie.Need-loop-again Inv-loop μ-loop
@@ -128,10 +129,10 @@ loop-again c =
     let start = c .before .before .before .before .before .before .before .before .before .before .before .before .before .before .before .before .before .before .before .before .before .before .before .before .before .before .before .before .before .before .before .before .before .before .before in
     let a = c .before .before .before .before .before .before .before .before .before .before .before .before .before .before .before .before .before .before .before .before .before .before .before .loop in
     let k = c .before .before .before .before .before .before .before .before .before .before .before .before .before .before .before .before .before .before .before .before .chunk-size .result in
-    let room : a .n + 2048 ≤ length (a .text) = omega (arith, (c .before .before .before .before .before .before .before .before .before .before .before .before .before .before .before .before .before .before .before .before .before .before .goes-on .ensures (c .before .before .before .before .before .before .before .before .before .before .before .before .before .before .before .before .before .before .before .before .before .if1 .taken)) .0, a .inv .0 .roomy, a .inv .1 .1 .1 .1 .1 .1) in
+    let room : a .n + outBytes ≤ length (a .text) = omega (arith, (c .before .before .before .before .before .before .before .before .before .before .before .before .before .before .before .before .before .before .before .before .before .before .goes-on .ensures (c .before .before .before .before .before .before .before .before .before .before .before .before .before .before .before .before .before .before .before .before .before .if1 .taken)) .0, a .inv .0 .roomy, a .inv .1 .1 .1 .1 .1 .1) in
     let long : a .at + k ≤ length (now (start .args .input)) = omega (arith, c .before .before .before .before .before .before .before .before .before .before .before .before .before .before .before .before .before .before .before .before .chunk-size .ensures .0, a .inv .0 .within) in
     let is : length (take (a .at + k - a .at) (drop (a .at) (now (start .args .input)))) ≡ k = part-is (now (start .args .input)) (a .at) k long in
-    let out : length (take (a .n + 2048 - a .n) (drop (a .n) (a .text))) ≡ 2048 = part-is (a .text) (a .n) 2048 room in
+    let out : length (take (a .n + outBytes - a .n) (drop (a .n) (a .text))) ≡ outBytes = part-is (a .text) (a .n) outBytes room in
     let f = c .before .before .before .before .before .before .before .before .before .before .before .before .before .fill in
     let l = a .inv .1 .1 in (
       stands-on (length (now (start .args .input))) (length (now (start .args .text))) (a .reading) (desk (a .block) (a .line) (a .bytes) (a .command)) (a .at) (a .n) _ _ (c .before .before .before .before .before .before .before .before .before .before .before .before .before .fill .result) _ _ (a .inv .0) (c .before .before .before .before .before .before .before .before .before .before .before .before .before .fill .ensures) (omega (arith, is, long)) (c .kept .result) (c .kept .ensures) (omega (arith, out, room, l .1 .1 .1 .1)),
