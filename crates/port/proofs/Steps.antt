@@ -86,9 +86,6 @@ module _ (b low : List ℕ) (n : ℕ) (r : Receiver) (long : length b ≡ blockB
   header-long : length header ≡ blockBytes
   header-long = simp length-set long
 
-  pub low-long : length low ≡ blockBytes
-  low-long = ap length first ∙ length-over packetAt 8 (bytesOf 8 (r .lo)) header (omega (arith, header-long)) (length-bytes 8 (r .lo)) ∙ header-long
-
   pub receiver-put : (m : List ℕ) → m ≡ over (packetAt + 8) 8 (bytesOf 8 (r .hi)) low → m ≡ putReceiver (rxOf r) b
   unfolding putReceiver
   receiver-put m second =

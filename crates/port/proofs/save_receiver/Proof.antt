@@ -5,7 +5,7 @@ use native.Mathlib.Omega.{arith}
 use denote.Ref.{now}
 use lib.ListN.{length, length-set}
 use Rattle.receiver.specs.Receive.{rxOf}
-use Rattle.port.proofs.Steps.{length-receiver, low-long, receiver-put}
+use Rattle.port.proofs.Steps.{length-receiver, receiver-put}
 use Rattle.port.proofs.save_receiver.Statement.{statement}
 use Rattle.port.proofs.save_receiver.Tie as tie
 
@@ -31,7 +31,9 @@ add-put-half : tie.Need-add-put-half
 add-put-half c = search needs
 
 put-half-requires-2 : tie.Need-put-half-requires-2
-put-half-requires-2 c κs = omega (arith, low-long (now (c .before .before .before .before .before .before .before .args .block)) _ _ (c .before .before .before .before .before .before .before .args .rx) (c .before .before .before .before .before .before .before .pre) (search needs) (c .before .before .before .before .before .stage-number .ensures) (c .before .before .before .put-half .ensures))
+put-half-requires-2 c κs =
+    let k = simp length-set at (c .before .before .before .put-half .kept .0) in
+    omega (arith, k, c .before .before .before .before .before .before .before .pre)
 
 returns : tie.Need-returns
 returns c = receiver-put (now (c .before .before .before .before .before .before .before .before .before .before .args .block)) _ _ (c .before .before .before .before .before .before .before .before .before .before .args .rx) (c .before .before .before .before .before .before .before .before .before .before .pre) (search needs) (c .before .before .before .before .before .before .before .before .stage-number .ensures) (c .before .before .before .before .before .before .put-half .ensures) _ (c .before .before .put-half2 .ensures)
