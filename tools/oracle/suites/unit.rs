@@ -17,7 +17,7 @@ use std::collections::BTreeSet;
 pub fn run(ctx: &mut Ctx) {
     fresh(ctx);
     every_command(ctx);
-    streams(ctx);
+    streams(ctx, 400, generate::events, By::Write);
     refusals(ctx);
     damaged_blocks(ctx);
 }
@@ -72,19 +72,16 @@ fn every_command(ctx: &mut Ctx) {
     }
 }
 
-/// Commands, faults, noise and screens, from any valid block and from `post_boot`. Each kind of transfer lands.
-fn streams(ctx: &mut Ctx) {
-    for round in ctx.rounds(400) {
-        let mut b = generate::block(&mut ctx.rng);
-        if round % 4 == 0 {
-            b = block::post_boot();
-        }
+/// Commands, faults, noise and screens, from any valid block and from fresh ones. Each kind of transfer lands.
+pub fn streams(ctx: &mut Ctx, rounds: usize, events: fn(&mut Rng, usize) -> Vec<Event>, by: By) {
+    for _ in ctx.rounds(rounds) {
+        let b = generate::start(&mut ctx.rng);
         let rest = generate::rest_of_command(&mut ctx.rng, &b);
-        let mut events = vec![Event::Writes(rest)];
-        events.extend(generate::events(&mut ctx.rng, 12));
+        let mut all = vec![Event::Writes(rest)];
+        all.extend(events(&mut ctx.rng, 12));
         let spare = ctx.rng.pick(&[0, 0, 1, 16, 40]);
-        ctx.try_on((Block(b), spare, List(events)), |(b, spare, events)| {
-            follow(&b.0, *spare, &events.0, By::Write)
+        ctx.try_on((Block(b), spare, List(all)), |(b, spare, all)| {
+            follow(&b.0, *spare, &all.0, by)
         });
     }
     let landings = counts::landings();
