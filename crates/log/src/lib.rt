@@ -13,6 +13,7 @@ ghost use Rattle.line.specs.Line.{lineDigits};
 ghost use Rattle.log.specs.Steps.{begun, left, fill, desk, toldOf, ranOn, answerOf, ended, stepped, Fit, goesOn, stepRoom, ToldFits, Said, Full, isRefused, toldBy, lastLf, nextLine, most64};
 ghost use Rattle.layout.specs.Block.{load};
 ghost use Rattle.picture.specs.Picture.{rowOf};
+ghost use Rattle.picture.specs.Tables.{TablesOf};
 ghost use Rattle.view.specs.Drawn.{partsOf};
 ghost use Rattle.log.specs.Texts.{shown, headBytes, headLine};
 ghost use Rattle.bits.specs.Over.{over};
@@ -334,13 +335,22 @@ pub fn head_line(block: &[u8], out: &mut [u8]) -> usize
     command_line(&block[0..parts::SPARE], out, 0)
 }
 
-// A row of the picture as `plate` prints it, at the front of `out`.
-pub fn row_line(block: &[u8], y: usize, words: &mut [u16], out: &mut [u8])
+// A row of the picture as `plate` prints it, at the front of `out`, from the tables of the block's picture.
+pub fn row_line(
+    block: &[u8],
+    spreads: &[u32],
+    border: &[u16],
+    game: &[u16],
+    y: usize,
+    words: &mut [u16],
+    out: &mut [u8],
+)
     requires { ⌜ Valid (now block) × (y < 224) ⌝ }
+    requires { ⌜ TablesOf (partsOf (load (now block))) (now spreads) (now border) (now game) ⌝ }
     requires { ⌜ (length (now words) ≡ 256) × (1025 ≤ length (now out)) ⌝ }
     ensures { λ _. ⌜ now (words .exit) ≡ rowOf (partsOf (load (now (block .entry)))) y ⌝ }
     ensures { λ _. ⌜ now (out .exit) ≡ over 0 1025 (rowLine (rowOf (partsOf (load (now (block .entry)))) y)) (now (out .entry)) ⌝ }
 {
-    view::drawn::draw_row(block, y, words);
+    view::drawn::row_from(block, spreads, border, game, y, words);
     text::row_line(words, out);
 }

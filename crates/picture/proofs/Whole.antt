@@ -25,7 +25,7 @@ use Rattle.border.proofs.Entries.{drawn-palette, index-lt}
 use Rattle.lanes.specs.Lanes.{spreadOf}
 use Rattle.runs.specs.Runs.{Tables, baseOf, within, screenFrom, runPixel, pixelIn}
 use Rattle.picture.specs.Picture.{Parts, onScreen, below, pixelAt, rowOf, pictureOf}
-use Rattle.picture.specs.Tables.{borderColor, gameColor, pixelOn}
+use Rattle.picture.specs.Tables.{borderColor, gameColor, TablesOf, pixelOn}
 
 -- the border's table
 module _ (l b : List ℕ) (back : ℕ) (e : l ≡ tab 48 (borderColor b back)) where
@@ -60,17 +60,16 @@ module _ (l b : List ℕ) (back : ℕ) (e : l ≡ tab 48 (borderColor b back)) w
       ∙ opaque-at w (suc i) f h ne
       ∙ (λ j. Option·getD (cond (sym t j) none (some (inPalette b w (suc i)))) v)
 
--- the tables as the runs ask for them
-pub tables-are : (s l g b : List ℕ) (back : ℕ) (f : ℕ → ℕ) → s ≡ tab 512 spreadOf → l ≡ tab 48 (borderColor b back) → g ≡ tab 16 f → Tables s l g
-unfolding borderColor
-tables-are s l g b back f es el eg =
-    record {
-      spread = es;
-      border-long = ap length el ∙ length-tab 48 (borderColor b back);
-      game-long = ap length eg ∙ length-tab 16 f;
-      second = at l b back el 16 (omega arith) ∙ sym (first l b back el);
-      third = at l b back el 32 (omega arith) ∙ sym (first l b back el);
-    }
+-- tables made from parts that are the picture's, each by itself
+pub tables-of : (p : Parts) {palettes preset borders spreads border game : List ℕ} {inForce : Bool} {mode : ℕ}
+    → palettes ≡ p .palettes → preset ≡ p .preset → inForce ≡ p .inForce → mode ≡ p .mode → borders ≡ p .borders
+    → spreads ≡ tab 512 spreadOf → border ≡ tab 48 (borderColor borders (backdropOf palettes preset inForce)) → game ≡ tab 16 (gameColor palettes preset inForce mode)
+    → TablesOf p spreads border game
+tables-of p ep es ef em eb s b g = record {
+  spread = s;
+  border-is = b ∙ (λ i. tab 48 (borderColor (eb i) (backdropOf (ep i) (es i) (ef i))));
+  game-is = g ∙ (λ i. tab 16 (gameColor (ep i) (es i) (ef i) (em i)));
+}
 
 -- the screen's cells are where the screen is
 cells : (x y : ℕ) → within (x / 8) y ≡ onScreen x y
@@ -82,16 +81,28 @@ cells x y =
     (λ t. let h = ltb-true (x / 8) 26 t in lt-ltb x 208 (omega arith)) (λ t. let h = ltb-true x 208 t in lt-ltb (x / 8) 26 (omega arith)) in
     λ i. (a i && b i) && (leb 40 y && ltb y (40 + 144))
 
-module _ (p : Parts) (border game : List ℕ)
-    (eb : border ≡ tab 48 (borderColor (p .borders) (backdropOf (p .palettes) (p .preset) (p .inForce))))
-    (eg : game ≡ tab 16 (gameColor (p .palettes) (p .preset) (p .inForce) (p .mode))) where
+module _ (p : Parts) (spreads border game : List ℕ) (t : TablesOf p spreads border game) where
+  back : ℕ
+  back = backdropOf (p .palettes) (p .preset) (p .inForce)
+
+  -- the tables as the runs ask for them
+  pub tables-are : Tables spreads border game
+  unfolding borderColor back
+  tables-are = record {
+    spread = t .spread;
+    border-long = ap length (t .border-is) ∙ length-tab 48 (borderColor (p .borders) back);
+    game-long = ap length (t .game-is) ∙ length-tab 16 (gameColor (p .palettes) (p .preset) (p .inForce) (p .mode));
+    second = at border (p .borders) back (t .border-is) 16 (omega arith) ∙ sym (first border (p .borders) back (t .border-is));
+    third = at border (p .borders) back (t .border-is) 32 (omega arith) ∙ sym (first border (p .borders) back (t .border-is));
+  }
+
   looked : (n h : ℕ) → n < 4 → h < 4 → getD game (n * 4 + h) 0 ≡ maskedOf (p .palettes) (p .preset) (p .inForce) (p .mode) n h
   unfolding gameColor
   looked n h ln lh =
       let lt : n * 4 + h < 16 = omega arith in
       let a : (n * 4 + h) / 4 ≡ n = omega arith in
       let b : (n * 4 + h) % 4 ≡ h = omega arith in
-      ap (λ (m : List ℕ). getD m (n * 4 + h) 0) eg
+      ap (λ (m : List ℕ). getD m (n * 4 + h) 0) (t .game-is)
       ∙ getD-tab 16 (gameColor (p .palettes) (p .preset) (p .inForce) (p .mode)) (n * 4 + h) lt
       ∙ ap₂ (maskedOf (p .palettes) (p .preset) (p .inForce) (p .mode)) a b
 
@@ -105,8 +116,8 @@ module _ (p : Parts) (border game : List ℕ)
   screen-is : (x y : ℕ) → onScreen x y ≡ true
       → seen x y ≡ screenPixel (p .palettes) (p .preset) (p .inForce) (p .attributes) (p .screen) (p .mode) (x - 48) (y - 40)
   unfolding screenPixel seen
-  screen-is x y t =
-      let hx : 48 ≤ x = leb-true 48 x (and-left _ (ltb x 208) (and-left (leb 48 x && ltb x 208) (leb 40 y && ltb y (40 + 144)) t)) in
+  screen-is x y on =
+      let hx : 48 ≤ x = leb-true 48 x (and-left _ (ltb x 208) (and-left (leb 48 x && ltb x 208) (leb 40 y && ltb y (40 + 144)) on)) in
       let ec : x / 8 - 6 ≡ (x - 48) / 8 = omega arith in
       let es : screenFrom (x / 8) y + x % 8 ≡ (y - 40) * 160 + (x - 48) = omega arith in
       looked (cellAt (p .attributes) (x / 8 - 6) ((y - 40) / 8)) (pairAt (p .screen) (screenFrom (x / 8) y + x % 8)) (small _ _) (small _ _)
@@ -115,11 +126,11 @@ module _ (p : Parts) (border game : List ℕ)
   below-is : (x y : ℕ) → cond (within (x / 8) y) (seen x y) (getD border 0 0) ≡ below p x y
   unfolding below
   below-is x y =
-      (λ i. cond (cells x y i) (seen x y) (first border (p .borders) (backdropOf (p .palettes) (p .preset) (p .inForce)) eb i)) ∙ go (onScreen x y) refl
+      (λ i. cond (cells x y i) (seen x y) (first border (p .borders) (backdropOf (p .palettes) (p .preset) (p .inForce)) (t .border-is) i)) ∙ go (onScreen x y) refl
     where
-      go : (t : Bool) → onScreen x y ≡ t
-          → cond t (seen x y) (backdropOf (p .palettes) (p .preset) (p .inForce))
-          ≡ cond t (screenPixel (p .palettes) (p .preset) (p .inForce) (p .attributes) (p .screen) (p .mode) (x - 48) (y - 40)) (backdropOf (p .palettes) (p .preset) (p .inForce))
+      go : (on : Bool) → onScreen x y ≡ on
+          → cond on (seen x y) (backdropOf (p .palettes) (p .preset) (p .inForce))
+          ≡ cond on (screenPixel (p .palettes) (p .preset) (p .inForce) (p .attributes) (p .screen) (p .mode) (x - 48) (y - 40)) (backdropOf (p .palettes) (p .preset) (p .inForce))
       go true e = screen-is x y e
       go false e = refl
 
@@ -129,17 +140,22 @@ module _ (p : Parts) (border game : List ℕ)
       let w : ℕ = entryAt (p .map) (x / 8) (y / 8) in
       let i : ℕ = indexIn (tilePart (p .tiles) (tileOf w)) (flipped (flipY w) (y % 8)) (flipped (flipX w) (x % 8)) in
       ap (λ (v : ℕ). runPixel (cond (draws w) i 0) border (baseOf w) v) (below-is x y)
-      ∙ shows border (p .borders) (backdropOf (p .palettes) (p .preset) (p .inForce)) eb w i (below p x y) (draws w) refl (index-lt _ _ _)
+      ∙ shows border (p .borders) (backdropOf (p .palettes) (p .preset) (p .inForce)) (t .border-is) w i (below p x y) (draws w) refl (index-lt _ _ _)
 
-  pub row-is : (y : ℕ) (o l : List ℕ) → Painted o l 0 256 (pixelOn (p .tiles) (p .map) (p .attributes) (p .screen) border game y) → 256 ≤ length l
-      → o ≡ rowOf p y ++ drop 256 l
-  unfolding rowOf
-  row-is y o l q h = painted-tab (painted-same q (λ x. pixelAt p x y) (λ x lt. pixel-is x y)) h
+  -- from parts that are the picture's, each by itself
+  module _ {tiles map attributes screen : List ℕ} (et : tiles ≡ p .tiles) (em : map ≡ p .map) (ea : attributes ≡ p .attributes) (es : screen ≡ p .screen) where
+    drawn : (x y : ℕ) → pixelOn tiles map attributes screen border game y x ≡ pixelAt p x y
+    drawn x y = (λ i. pixelOn (et i) (em i) (ea i) (es i) border game y x) ∙ pixel-is x y
 
-  pub picture-is : (o l : List ℕ) → Painted o l 0 57344 (λ k. pixelOn (p .tiles) (p .map) (p .attributes) (p .screen) border game (k / 256) (k % 256)) → 57344 ≤ length l
-      → o ≡ pictureOf p ++ drop 57344 l
-  unfolding pictureOf
-  picture-is o l q h = painted-tab (painted-same q (λ k. pixelAt p (k % 256) (k / 256)) (λ k lt. pixel-is (k % 256) (k / 256))) h
+    pub row-is : (y : ℕ) (o l : List ℕ) → Painted o l 0 256 (pixelOn tiles map attributes screen border game y) → 256 ≤ length l
+        → o ≡ rowOf p y ++ drop 256 l
+    unfolding rowOf
+    row-is y o l q h = painted-tab (painted-same q (λ x. pixelAt p x y) (λ x lt. drawn x y)) h
+
+    pub picture-is : (o l : List ℕ) → Painted o l 0 57344 (λ k. pixelOn tiles map attributes screen border game (k / 256) (k % 256)) → 57344 ≤ length l
+        → o ≡ pictureOf p ++ drop 57344 l
+    unfolding pictureOf
+    picture-is o l q h = painted-tab (painted-same q (λ k. pixelAt p (k % 256) (k / 256)) (λ k lt. drawn (k % 256) (k / 256))) h
 
 -- the next run of a row, the next row of the picture
 module _ (tiles map attributes screen border game : List ℕ) (y : ℕ) (l m o : List ℕ) where

@@ -22,9 +22,6 @@ pub record Parts : Type 0 where
   pub map : List ℕ
   pub borders : List ℕ
 
-abbrev pub parts : List ℕ → List ℕ → Bool → List ℕ → List ℕ → ℕ → List ℕ → List ℕ → List ℕ → Parts
-parts p s f a d m t w b = record { palettes = p; preset = s; inForce = f; attributes = a; screen = d; mode = m; tiles = t; map = w; borders = b }
-
 -- the screen, 160 by 144, stands at (48, 40)
 abbrev pub onScreen : ℕ → ℕ → Bool
 onScreen x y = (leb 48 x && ltb x (48 + 160)) && (leb 40 y && ltb y (40 + 144))

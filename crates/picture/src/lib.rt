@@ -2,94 +2,40 @@
 // Rust: `snes_picture`. A row goes by runs of eight pixels (`runs`) from tables that are made once: with a full border a sixth of the Rust's time.
 ghost use mathlib.Core.Path.{_≡_};
 ghost use Prim.Native.Nat.{_<_, _≤_, _+_, _/_, _%_};
-ghost use mathlib.Core.List.{_++_};
-ghost use lib.ListN.{length, drop};
+ghost use lib.ListN.{length};
 ghost use Rattle.parts.specs.Parts.{presetBytes, palettesBytes, borderPalettesBytes};
 ghost use Rattle.bits.specs.Tab.{tab};
 ghost use Rattle.bits.specs.Paint.{Painted};
+ghost use Rattle.screen.specs.Colours.{backdropOf};
+ghost use Rattle.lanes.specs.Lanes.{spreadOf};
 ghost use Rattle.runs.specs.Runs.{Lent, Tables};
-ghost use Rattle.picture.specs.Picture.{parts, rowOf, pictureOf};
 ghost use Rattle.picture.specs.Tables.{borderColor, gameColor, pixelOn};
 
-// Row y of the picture. An output that is longer keeps its tail.
-pub fn row(
+// The tables, made once for as many rows as are drawn from them.
+pub fn tables(
     palettes: &[u8],
     preset: &[u8],
     in_force: bool,
-    attributes: &[u8],
-    screen: &[u8],
     mode: u8,
-    tiles: &[u8],
-    map: &[u8],
     borders: &[u8],
-    y: usize,
-    out: &mut [u16],
+    spreads: &mut [u32],
+    border: &mut [u16],
+    game: &mut [u16],
 )
-    requires { ⌜ Lent (now tiles) (now map) (now attributes) (now screen) ⌝ }
     requires { ⌜ (length (now palettes) ≡ palettesBytes) × (length (now preset) ≡ presetBytes) × (length (now borders) ≡ borderPalettesBytes) ⌝ }
-    requires { ⌜ (y < 224) × (256 ≤ length (now out)) ⌝ }
-    ensures { λ _. ⌜ now (out .exit) ≡ rowOf (parts (now (palettes .entry)) (now (preset .entry)) «in_force» (now (attributes .entry)) (now (screen .entry)) mode (now (tiles .entry)) (now (map .entry)) (now (borders .entry))) y ++ drop 256 (now (out .entry)) ⌝ }
+    requires { ⌜ (length (now spreads) ≡ 512) × (length (now border) ≡ 48) × (length (now game) ≡ 16) ⌝ }
+    ensures { λ _. ⌜ now (spreads .exit) ≡ tab 512 spreadOf ⌝ }
+    ensures { λ _. ⌜ now (border .exit) ≡ tab 48 (borderColor (now (borders .entry)) (backdropOf (now (palettes .entry)) (now (preset .entry)) «in_force»)) ⌝ }
+    ensures { λ _. ⌜ now (game .exit) ≡ tab 16 (gameColor (now (palettes .entry)) (now (preset .entry)) «in_force» mode) ⌝ }
 {
-    let mut spreads = [0u32; 512];
-    lanes::fill_spreads(&mut spreads);
+    lanes::fill_spreads(spreads);
     let back = screen::backdrop(palettes, preset, in_force).0;
-    let mut border = [0u16; 48];
-    border_colors(&mut border, borders, back);
-    let mut game = [0u16; 16];
-    game_colors(&mut game, palettes, preset, in_force, mode);
-    row_with(
-        out,
-        0,
-        tiles,
-        map,
-        attributes,
-        screen,
-        &spreads,
-        &border,
-        &game,
-        y,
-    );
+    border_colors(border, borders, back);
+    game_colors(game, palettes, preset, in_force, mode);
 }
 
-// The whole picture.
+// The whole picture, from the tables.
 pub fn picture(
-    palettes: &[u8],
-    preset: &[u8],
-    in_force: bool,
-    attributes: &[u8],
-    screen: &[u8],
-    mode: u8,
-    tiles: &[u8],
-    map: &[u8],
-    borders: &[u8],
-    out: &mut [u16],
-)
-    requires { ⌜ Lent (now tiles) (now map) (now attributes) (now screen) ⌝ }
-    requires { ⌜ (length (now palettes) ≡ palettesBytes) × (length (now preset) ≡ presetBytes) × (length (now borders) ≡ borderPalettesBytes) ⌝ }
-    requires { ⌜ 57344 ≤ length (now out) ⌝ }
-    ensures { λ _. ⌜ now (out .exit) ≡ pictureOf (parts (now (palettes .entry)) (now (preset .entry)) «in_force» (now (attributes .entry)) (now (screen .entry)) mode (now (tiles .entry)) (now (map .entry)) (now (borders .entry))) ++ drop 57344 (now (out .entry)) ⌝ }
-{
-    let mut spreads = [0u32; 512];
-    lanes::fill_spreads(&mut spreads);
-    let back = screen::backdrop(palettes, preset, in_force).0;
-    let mut border = [0u16; 48];
-    border_colors(&mut border, borders, back);
-    let mut game = [0u16; 16];
-    game_colors(&mut game, palettes, preset, in_force, mode);
-    rows_with(
-        out,
-        tiles,
-        map,
-        attributes,
-        screen,
-        &spreads,
-        &border,
-        &game,
-    );
-}
-
-// All rows, from the tables.
-fn rows_with(
     out: &mut [u16],
     tiles: &[u8],
     map: &[u8],
@@ -106,7 +52,7 @@ fn rows_with(
 {
     let mut y = 0;
     while y < 224 {
-        row_with(
+        row(
             out,
             y * 256,
             tiles,
@@ -123,7 +69,7 @@ fn rows_with(
 }
 
 // Row y, run by run, written from `at` on.
-fn row_with(
+pub fn row(
     out: &mut [u16],
     at: usize,
     tiles: &[u8],
@@ -159,7 +105,7 @@ fn row_with(
     }
 }
 
-// The tables.
+// Table by table.
 fn border_colors(out: &mut [u16], borders: &[u8], back: u16)
     requires { ⌜ (length (now out) ≡ 48) × (length (now borders) ≡ borderPalettesBytes) ⌝ }
     ensures { λ _. ⌜ now (out .exit) ≡ tab 48 (borderColor (now (borders .entry)) back) ⌝ }

@@ -4,6 +4,9 @@ ghost use mathlib.Core.Path.{_≡_};
 ghost use Prim.Native.Nat.{_≤_};
 ghost use lib.ListN.{length};
 ghost use Rattle.layout.specs.Valid.{Valid};
+ghost use Rattle.layout.specs.Block.{load};
+ghost use Rattle.picture.specs.Tables.{TablesOf};
+ghost use Rattle.view.specs.Drawn.{partsOf};
 ghost use Rattle.log.specs.Steps.{desk};
 ghost use Rattle.reader.specs.Fed.{Sized, chunkBytes, outBytes};
 use reader::Fed;
@@ -62,17 +65,29 @@ fn picture(block: &[u8], out: &mut [u8])
     requires { ⌜ Valid (now block) ⌝ }
     requires { ⌜ length (now out) ≡ outBytes ⌝ }
 {
+    let mut spreads = [0u32; 512];
+    let mut border = [0u16; 48];
+    let mut game = [0u16; 16];
+    view::drawn::tables(block, &mut spreads, &mut border, &mut game);
     let mut words = [0u16; 256];
-    rows(block, &mut words, out);
+    rows(block, &spreads, &border, &game, &mut words, out);
 }
 
-fn rows(block: &[u8], words: &mut [u16], out: &mut [u8])
+fn rows(
+    block: &[u8],
+    spreads: &[u32],
+    border: &[u16],
+    game: &[u16],
+    words: &mut [u16],
+    out: &mut [u8],
+)
     requires { ⌜ Valid (now block) ⌝ }
+    requires { ⌜ TablesOf (partsOf (load (now block))) (now spreads) (now border) (now game) ⌝ }
     requires { ⌜ (length (now words) ≡ 256) × (length (now out) ≡ outBytes) ⌝ }
 {
     let mut y: usize = 0;
     while y < 224 {
-        log::row_line(block, y, words, out);
+        log::row_line(block, spreads, border, game, y, words, out);
         if !reader::write_out(&out[0..1025]) {
             return;
         }

@@ -10,7 +10,6 @@ use borrow.Author.Tests.{eq-eqb}
 use Rattle.bits.specs.Over.{part}
 use Rattle.bits.proofs.Overs.{length-part}
 use Rattle.screen.specs.Displayed.{displayed}
-use Rattle.picture.specs.Picture.{Parts, parts as lentParts}
 use Rattle.parts.specs.Parts.{blockBytes, headerBytes, liveAt, captureBytes, frozenAt, sizes, sum}
 use Rattle.layout.specs.Block.{byte, header, parts, load}
 use Rattle.layout.proofs.Made.{made-of, made-get, made-byte}
@@ -25,13 +24,6 @@ shown-long live frozen mode h k = rw (eq-eqb (length live) captureBytes h, eq-eq
     pick : (t : Bool) → length (cond t frozen live) ≡ captureBytes
     pick true = k
     pick false = h
-
--- parts that are those of p, each by itself, are p
-pub whole : (p : Parts) {palettes preset attributes screen tiles map borders : List ℕ} {inForce : Bool} {mode : ℕ}
-    → palettes ≡ p .palettes → preset ≡ p .preset → inForce ≡ p .inForce → attributes ≡ p .attributes → screen ≡ p .screen → mode ≡ p .mode
-    → tiles ≡ p .tiles → map ≡ p .map → borders ≡ p .borders
-    → lentParts palettes preset inForce attributes screen mode tiles map borders ≡ p
-whole p a b c d e f g h k = λ i. lentParts (a i) (b i) (c i) (d i) (e i) (f i) (g i) (h i) (k i)
 
 module _ (b : List ℕ) (v : Valid b) where
   -- the k-th part, of its size

@@ -4,6 +4,7 @@ ghost use mathlib.Core.Path.{_≡_};
 ghost use Prim.Native.Nat.{_<_, _≤_};
 ghost use lib.ListN.{length};
 ghost use Rattle.border.specs.Border.{entryAt, colourOf};
+ghost use Rattle.picture.specs.Tables.{TablesOf};
 ghost use Rattle.layout.specs.Block.{load};
 ghost use Rattle.view.specs.Refusal.{Valid};
 ghost use Rattle.view.specs.Drawn.{partsOf, backdropIn, shadeIn, borderIn, rowDrawn, pictureDrawn};
@@ -61,25 +62,63 @@ pub fn border(block: &[u8], x: usize, y: usize) -> BorderColor
     )
 }
 
-// Row y, into the first 256 words of `out`.
+// The tables that its picture is drawn from, made once for as many rows as are asked for.
+pub fn tables(block: &[u8], spreads: &mut [u32], border: &mut [u16], game: &mut [u16])
+    requires { ⌜ Valid (now block) ⌝ }
+    requires { ⌜ (length (now spreads) ≡ 512) × (length (now border) ≡ 48) × (length (now game) ≡ 16) ⌝ }
+    ensures { λ _. ⌜ TablesOf (partsOf (load (now (block .entry)))) (now (spreads .exit)) (now (border .exit)) (now (game .exit)) ⌝ }
+{
+    picture::tables(
+        of_block::palettes(block),
+        of_block::preset(block),
+        of_block::in_force(block),
+        of_block::mode(block),
+        of_block::borders(block),
+        spreads,
+        border,
+        game,
+    );
+}
+
+// Row y from the tables, into the first 256 words of `out`.
+pub fn row_from(
+    block: &[u8],
+    spreads: &[u32],
+    border: &[u16],
+    game: &[u16],
+    y: usize,
+    out: &mut [u16],
+)
+    requires { ⌜ Valid (now block) ⌝ }
+    requires { ⌜ TablesOf (partsOf (load (now block))) (now spreads) (now border) (now game) ⌝ }
+    requires { ⌜ (y < 224) × (256 ≤ length (now out)) ⌝ }
+    ensures { λ _. ⌜ now (out .exit) ≡ rowDrawn (now (block .entry)) y (now (out .entry)) ⌝ }
+{
+    picture::row(
+        out,
+        0,
+        of_block::tiles(block),
+        of_block::map(block),
+        of_block::attributes(block),
+        of_block::shown(block),
+        spreads,
+        border,
+        game,
+        y,
+    );
+}
+
+// Row y by itself.
 pub fn draw_row(block: &[u8], y: usize, out: &mut [u16])
     requires { ⌜ Valid (now block) ⌝ }
     requires { ⌜ (y < 224) × (256 ≤ length (now out)) ⌝ }
     ensures { λ _. ⌜ now (out .exit) ≡ rowDrawn (now (block .entry)) y (now (out .entry)) ⌝ }
 {
-    picture::row(
-        of_block::palettes(block),
-        of_block::preset(block),
-        of_block::in_force(block),
-        of_block::attributes(block),
-        of_block::shown(block),
-        of_block::mode(block),
-        of_block::tiles(block),
-        of_block::map(block),
-        of_block::borders(block),
-        y,
-        out,
-    );
+    let mut spreads = [0u32; 512];
+    let mut border = [0u16; 48];
+    let mut game = [0u16; 16];
+    tables(block, &mut spreads, &mut border, &mut game);
+    row_from(block, &spreads, &border, &game, y, out);
 }
 
 // The whole picture, into the first 57,344 words of `out`.
@@ -88,16 +127,18 @@ pub fn draw_picture(block: &[u8], out: &mut [u16])
     requires { ⌜ 57344 ≤ length (now out) ⌝ }
     ensures { λ _. ⌜ now (out .exit) ≡ pictureDrawn (now (block .entry)) (now (out .entry)) ⌝ }
 {
+    let mut spreads = [0u32; 512];
+    let mut border = [0u16; 48];
+    let mut game = [0u16; 16];
+    tables(block, &mut spreads, &mut border, &mut game);
     picture::picture(
-        of_block::palettes(block),
-        of_block::preset(block),
-        of_block::in_force(block),
-        of_block::attributes(block),
-        of_block::shown(block),
-        of_block::mode(block),
+        out,
         of_block::tiles(block),
         of_block::map(block),
-        of_block::borders(block),
-        out,
+        of_block::attributes(block),
+        of_block::shown(block),
+        &spreads,
+        &border,
+        &game,
     );
 }

@@ -1,71 +1,60 @@
--- The rows drawn from the tables are the picture's (`picture-is`).
-use Prim.Native.Nat.{ℕ}
-use mathlib.Core.Path.{ap, _∙_}
-use borrow.Author.Needs.{needs}
-use Rattle.bits.specs.Tab.{tab}
-use Rattle.picture.specs.Tables.{borderColor}
-use Rattle.picture.specs.Picture.{parts}
-use Rattle.picture.proofs.Whole.{tables-are, picture-is}
+-- Each turn adds a row after those that are there (`rows-turn`).
+use Prim.Native.Nat.{_-_, _*_, _/_, _%_, _≤_}
+use mathlib.Core.Path.{_≡_, refl}
+use native.Mathlib.Omega.{arith}
+use lib.ListN.{length}
+use Rattle.bits.specs.Paint.{Painted}
+use Rattle.bits.proofs.Painting.{painted-none, painted-count, painted-length}
+use Rattle.picture.specs.Tables.{pixelOn}
+use Rattle.picture.proofs.Whole.{rows-turn}
 use Rattle.picture.proofs.picture.Statement.{statement}
 use Rattle.picture.proofs.picture.Tie as tie
 
-slice-aggregate-fill-spreads : tie.Need-slice-aggregate-fill-spreads
-slice-aggregate-fill-spreads c = search needs
+abbrev Inv-loop : tie.InvT-loop
+Inv-loop out₀ tiles map attributes screen spreads border game y₀ out y = (y ≤ 224) × (length out ≡ length out₀) × Painted out out₀ 0 (y * 256) (λ k. pixelOn tiles map attributes screen border game (k / 256) (k % 256))
 
-fill-spreads-requires : tie.Need-fill-spreads-requires
-fill-spreads-requires c κs = search needs
+abbrev μ-loop : tie.MeasureT-loop
+μ-loop out₀ tiles map attributes screen spreads border game y₀ out y = 224 - y
 
-backdrop-requires : tie.Need-backdrop-requires
-backdrop-requires c κs = search needs
+loop-holds : tie.Need-loop-holds Inv-loop μ-loop
+loop-holds c = (omega arith, refl, painted-none)
 
-slice-aggregate-border-colors : tie.Need-slice-aggregate-border-colors
-slice-aggregate-border-colors c = search needs
+mul-row : tie.Need-mul-row Inv-loop μ-loop
+mul-row c = omega arith
 
-border-colors-requires : tie.Need-border-colors-requires
-border-colors-requires c κs = search needs
+row-requires : tie.Need-row-requires Inv-loop μ-loop
+row-requires c κs = (c .before .before .before .before .before .before .before .before .before .before .before .pre .0, (c .before .before .before .before .before .before .before .before .before .before .before .pre .1 .0, omega arith))
 
-slice-aggregate-game-colors : tie.Need-slice-aggregate-game-colors
-slice-aggregate-game-colors c = search needs
+add-y : tie.Need-add-y Inv-loop μ-loop
+add-y c = omega arith
 
-game-colors-requires : tie.Need-game-colors-requires
-game-colors-requires c κs = search needs
+loop-less : tie.Need-loop-less Inv-loop μ-loop
+loop-less c = omega arith
 
-slice-aggregate-rows-with : tie.Need-slice-aggregate-rows-with
-slice-aggregate-rows-with c = search needs
+loop-again : tie.Need-loop-again Inv-loop μ-loop
+loop-again c =
+    let l = c .before .before .before .before .before .loop in
+    let a = c .before .before .before .before .before .before .before .before .before .before .before .before .before .before .args in
+    let p = rows-turn (a .tiles .now) (a .map .now) (a .attributes .now) (a .screen .now) (a .border .now) (a .game .now) _ _ _ _ (l .inv .2) (c .before .before .row .ensures) in
+    (omega arith, painted-length p, p)
 
-slice-aggregate-rows-with-2 : tie.Need-slice-aggregate-rows-with-2
-slice-aggregate-rows-with-2 c = search needs
+same-length : tie.Need-same-length Inv-loop μ-loop
+same-length c = c .before .loop .inv .1
 
-slice-aggregate-rows-with-3 : tie.Need-slice-aggregate-rows-with-3
-slice-aggregate-rows-with-3 c = search needs
-
-rows-with-requires : tie.Need-rows-with-requires
-rows-with-requires c κs = (c .before .before .before .before .before .before .before .before .before .before .before .before .before .before .before .before .before .before .before .before .before .before .pre .0, (tables-are _ _ _ _ _ _ (c .before .before .before .before .before .before .before .before .before .before .before .before .fill-spreads .ensures) (c .before .before .before .before .before .before .before .before .border-colors .ensures) (c .before .before .before .before .before .game-colors .ensures), c .before .before .before .before .before .before .before .before .before .before .before .before .before .before .before .before .before .before .before .before .before .before .pre .1 .1))
-
-same-length : tie.Need-same-length
-same-length c = search needs
-
-returns : tie.Need-returns
-returns c =
-    let a = c .before .before .before .before .before .before .before .before .before .before .before .before .before .before .before .before .before .before .before .before .before .before .before .before .before .args in
-    picture-is (parts (a .palettes .now) (a .preset .now) (a .in-force) (a .attributes .now) (a .screen .now) (a .mode) (a .tiles .now) (a .map .now) (a .borders .now)) _ _
-    (c .before .before .before .before .before .before .before .before .before .before .before .border-colors .ensures ∙ ap (λ (k : ℕ). tab 48 (borderColor (a .borders .now) k)) (c .before .before .before .before .before .before .before .before .before .before .before .before .before .backdrop .ensures)) (c .before .before .before .before .before .before .before .before .game-colors .ensures)
-    _ _ (c .before .before .rows-with .ensures) (c .before .before .before .before .before .before .before .before .before .before .before .before .before .before .before .before .before .before .before .before .before .before .before .before .before .pre .1 .1)
+returns : tie.Need-returns Inv-loop μ-loop
+returns c = painted-count (c .before .loop .inv .2) 57344 (omega arith)
 
 pub picture-spec : {M : Type 1} → statement M
 picture-spec =
     tie.close
     (tie.spec
-    slice-aggregate-fill-spreads
-    fill-spreads-requires
-    backdrop-requires
-    slice-aggregate-border-colors
-    border-colors-requires
-    slice-aggregate-game-colors
-    game-colors-requires
-    slice-aggregate-rows-with
-    slice-aggregate-rows-with-2
-    slice-aggregate-rows-with-3
-    rows-with-requires
+    Inv-loop
+    μ-loop
+    loop-holds
+    mul-row
+    row-requires
+    add-y
+    loop-less
+    loop-again
     same-length
     returns)

@@ -1,72 +1,64 @@
--- The row drawn from the tables is the picture's (`row-is`).
-use Prim.Native.Nat.{ℕ}
-use mathlib.Core.Path.{ap, _∙_}
+-- Each turn adds a run after those that are there (`row-turn`).
+use Prim.Native.Nat.{_-_, _*_, _≤_}
+use mathlib.Core.Path.{_≡_, refl}
 use native.Mathlib.Omega.{arith}
-use borrow.Author.Needs.{needs}
-use Rattle.bits.specs.Tab.{tab}
-use Rattle.picture.specs.Tables.{borderColor}
-use Rattle.picture.specs.Picture.{parts}
-use Rattle.picture.proofs.Whole.{tables-are, row-is}
+use lib.ListN.{length}
+use Rattle.bits.specs.Paint.{Painted}
+use Rattle.bits.proofs.Painting.{painted-none, painted-count, painted-length}
+use Rattle.picture.specs.Tables.{pixelOn}
+use Rattle.picture.proofs.Whole.{row-turn}
 use Rattle.picture.proofs.row.Statement.{statement}
 use Rattle.picture.proofs.row.Tie as tie
 
-slice-aggregate-fill-spreads : tie.Need-slice-aggregate-fill-spreads
-slice-aggregate-fill-spreads c = search needs
+abbrev Inv-loop : tie.InvT-loop
+Inv-loop out₀ at tiles map attributes screen spreads border game y c₀ out c = (c ≤ 32) × (length out ≡ length out₀) × Painted out out₀ at (c * 8) (pixelOn tiles map attributes screen border game y)
 
-fill-spreads-requires : tie.Need-fill-spreads-requires
-fill-spreads-requires c κs = search needs
+abbrev μ-loop : tie.MeasureT-loop
+μ-loop out₀ at tiles map attributes screen spreads border game y c₀ out c = 32 - c
 
-backdrop-requires : tie.Need-backdrop-requires
-backdrop-requires c κs = search needs
+loop-holds : tie.Need-loop-holds Inv-loop μ-loop
+loop-holds c = (omega arith, refl, painted-none)
 
-slice-aggregate-border-colors : tie.Need-slice-aggregate-border-colors
-slice-aggregate-border-colors c = search needs
+mul-run : tie.Need-mul-run Inv-loop μ-loop
+mul-run c = omega arith
 
-border-colors-requires : tie.Need-border-colors-requires
-border-colors-requires c κs = search needs
+add-run : tie.Need-add-run Inv-loop μ-loop
+add-run c = omega arith
 
-slice-aggregate-game-colors : tie.Need-slice-aggregate-game-colors
-slice-aggregate-game-colors c = search needs
+run-requires : tie.Need-run-requires Inv-loop μ-loop
+run-requires c κs = (c .before .before .before .before .before .before .before .before .before .before .before .pre .0, (c .before .before .before .before .before .before .before .before .before .before .before .pre .1 .0, omega arith))
 
-game-colors-requires : tie.Need-game-colors-requires
-game-colors-requires c κs = search needs
+add-c : tie.Need-add-c Inv-loop μ-loop
+add-c c = omega arith
 
-slice-aggregate-row-with : tie.Need-slice-aggregate-row-with
-slice-aggregate-row-with c = search needs
+loop-less : tie.Need-loop-less Inv-loop μ-loop
+loop-less c = omega arith
 
-slice-aggregate-row-with-2 : tie.Need-slice-aggregate-row-with-2
-slice-aggregate-row-with-2 c = search needs
+loop-again : tie.Need-loop-again Inv-loop μ-loop
+loop-again c =
+    let l = c .before .before .before .before .before .loop in
+    let a = c .before .before .before .before .before .before .before .before .before .before .before .before .before .before .args in
+    let p = row-turn (a .tiles .now) (a .map .now) (a .attributes .now) (a .screen .now) (a .border .now) (a .game .now) (a .y) _ _ _ (l .c) (a .at) _ refl (l .inv .2) (c .before .before .run .ensures) in
+    (omega arith, painted-length p, p)
 
-slice-aggregate-row-with-3 : tie.Need-slice-aggregate-row-with-3
-slice-aggregate-row-with-3 c = search needs
+same-length : tie.Need-same-length Inv-loop μ-loop
+same-length c = c .before .loop .inv .1
 
-row-with-requires : tie.Need-row-with-requires
-row-with-requires c κs = (c .before .before .before .before .before .before .before .before .before .before .before .before .before .before .before .before .before .before .before .before .before .before .pre .0, (tables-are _ _ _ _ _ _ (c .before .before .before .before .before .before .before .before .before .before .before .before .fill-spreads .ensures) (c .before .before .before .before .before .before .before .before .border-colors .ensures) (c .before .before .before .before .before .game-colors .ensures), (omega arith, c .before .before .before .before .before .before .before .before .before .before .before .before .before .before .before .before .before .before .before .before .before .before .pre .1 .1 .0)))
-
-same-length : tie.Need-same-length
-same-length c = search needs
-
-returns : tie.Need-returns
-returns c =
-    let a = c .before .before .before .before .before .before .before .before .before .before .before .before .before .before .before .before .before .before .before .before .before .before .before .before .before .args in
-    row-is (parts (a .palettes .now) (a .preset .now) (a .in-force) (a .attributes .now) (a .screen .now) (a .mode) (a .tiles .now) (a .map .now) (a .borders .now)) _ _
-    (c .before .before .before .before .before .before .before .before .before .before .before .border-colors .ensures ∙ ap (λ (k : ℕ). tab 48 (borderColor (a .borders .now) k)) (c .before .before .before .before .before .before .before .before .before .before .before .before .before .backdrop .ensures)) (c .before .before .before .before .before .before .before .before .game-colors .ensures)
-    (a .y) _ _ (c .before .before .row-with .ensures) (c .before .before .before .before .before .before .before .before .before .before .before .before .before .before .before .before .before .before .before .before .before .before .before .before .before .pre .1 .1 .1)
+returns : tie.Need-returns Inv-loop μ-loop
+returns c = painted-count (c .before .loop .inv .2) 256 (omega arith)
 
 pub row-spec : {M : Type 1} → statement M
 row-spec =
     tie.close
     (tie.spec
-    slice-aggregate-fill-spreads
-    fill-spreads-requires
-    backdrop-requires
-    slice-aggregate-border-colors
-    border-colors-requires
-    slice-aggregate-game-colors
-    game-colors-requires
-    slice-aggregate-row-with
-    slice-aggregate-row-with-2
-    slice-aggregate-row-with-3
-    row-with-requires
+    Inv-loop
+    μ-loop
+    loop-holds
+    mul-run
+    add-run
+    run-requires
+    add-c
+    loop-less
+    loop-again
     same-length
     returns)
