@@ -8,16 +8,16 @@ use Rattle.plate.proofs.rows.Statement.{statement}
 use Rattle.plate.proofs.rows.Tie as tie
 
 abbrev Inv-loop : tie.InvT-loop
-Inv-loop block words₀ out₀ y₀ words out y = (y ≤ 224) × ((length words ≡ 256) × (length out ≡ outBytes))
+Inv-loop block spreads border game words₀ out₀ y₀ words out y = (y ≤ 224) × ((length words ≡ 256) × (length out ≡ outBytes))
 
 abbrev μ-loop : tie.MeasureT-loop
-μ-loop block words₀ out₀ y₀ words out y = 224 - y
+μ-loop block spreads border game words₀ out₀ y₀ words out y = 224 - y
 
 loop-holds : tie.Need-loop-holds Inv-loop μ-loop
-loop-holds c = (omega arith, (c .before .before .before .pre .1 .0, c .before .before .before .pre .1 .1))
+loop-holds c = (omega arith, (c .before .before .before .before .before .before .pre .1 .1 .0, c .before .before .before .before .before .before .pre .1 .1 .1))
 
 row-line-requires : tie.Need-row-line-requires Inv-loop μ-loop
-row-line-requires c κs = ((c .before .before .before .before .before .before .before .pre .0, omega (arith, c .before .before .loop-test .taken)), (c .before .before .before .loop .inv .1 .0, omega (arith, c .before .before .before .loop .inv .1 .1)))
+row-line-requires c κs = ((c .before .before .before .before .before .before .before .before .before .before .pre .0, omega (arith, c .before .before .loop-test .taken)), (c .before .before .before .before .before .before .before .before .before .before .pre .1 .0, (c .before .before .before .loop .inv .1 .0, omega (arith, c .before .before .before .loop .inv .1 .1))))
 
 sub-write-out : tie.Need-sub-write-out Inv-loop μ-loop
 sub-write-out c = omega arith
@@ -26,16 +26,16 @@ part-write-out-start : tie.Need-part-write-out-start Inv-loop μ-loop
 part-write-out-start c = omega arith
 
 part-write-out-end : tie.Need-part-write-out-end Inv-loop μ-loop
-part-write-out-end c = omega (arith, c .before .before .before .before .before .row-line .kept .1 .1 .1 .0, c .before .before .before .before .before .before .before .before .before .loop .inv .1 .1)
+part-write-out-end c = omega (arith, c .before .before .before .before .before .row-line .kept .1 .1 .1 .1 .1 .1 .0, c .before .before .before .before .before .before .before .before .before .loop .inv .1 .1)
 
 write-out-requires : tie.Need-write-out-requires Inv-loop μ-loop
 write-out-requires c κs = tt
 
 same-length : tie.Need-same-length Inv-loop μ-loop
-same-length c = omega (arith, c .before .before .before .before .before .before .before .before .row-line .kept .1 .1 .0, c .before .before .before .before .before .before .before .before .before .before .before .before .loop .inv .1 .0, c .before .before .before .before .before .before .before .before .before .before .before .before .before .before .before .before .pre .1 .0)
+same-length c = omega (arith, c .before .before .before .before .before .before .before .before .row-line .kept .1 .1 .1 .1 .1 .0, c .before .before .before .before .before .before .before .before .before .before .before .before .loop .inv .1 .0, c .before .before .before .before .before .before .before .before .before .before .before .before .before .before .before .before .before .before .before .pre .1 .1 .0)
 
 same-length-2 : tie.Need-same-length-2 Inv-loop μ-loop
-same-length-2 c = omega (arith, c .before .before .before .before .before .before .before .before .row-line .kept .1 .1 .1 .0, c .before .before .before .before .before .before .before .before .before .before .before .before .loop .inv .1 .1, c .before .before .before .before .before .before .before .before .before .before .before .before .before .before .before .before .pre .1 .1)
+same-length-2 c = omega (arith, c .before .before .before .before .before .before .before .before .row-line .kept .1 .1 .1 .1 .1 .1 .0, c .before .before .before .before .before .before .before .before .before .before .before .before .loop .inv .1 .1, c .before .before .before .before .before .before .before .before .before .before .before .before .before .before .before .before .before .before .before .pre .1 .1 .1)
 
 returns : tie.Need-returns Inv-loop μ-loop
 returns c = tt
@@ -47,13 +47,13 @@ loop-less : tie.Need-loop-less Inv-loop μ-loop
 loop-less c = omega (arith, c .before .before .before .before .before .before .before .before .before .before .before .loop-test .taken)
 
 loop-again : tie.Need-loop-again Inv-loop μ-loop
-loop-again c = (omega (arith, c .before .before .before .before .before .before .before .before .before .before .before .loop-test .taken), (c .before .before .before .before .before .before .before .before .row-line .kept .1 .1 .0 ∙ c .before .before .before .before .before .before .before .before .before .before .before .before .loop .inv .1 .0, c .before .before .before .before .before .before .before .before .row-line .kept .1 .1 .1 .0 ∙ c .before .before .before .before .before .before .before .before .before .before .before .before .loop .inv .1 .1))
+loop-again c = (omega (arith, c .before .before .before .before .before .before .before .before .before .before .before .loop-test .taken), (c .before .before .before .before .before .before .before .before .row-line .kept .1 .1 .1 .1 .1 .0 ∙ c .before .before .before .before .before .before .before .before .before .before .before .before .loop .inv .1 .0, c .before .before .before .before .before .before .before .before .row-line .kept .1 .1 .1 .1 .1 .1 .0 ∙ c .before .before .before .before .before .before .before .before .before .before .before .before .loop .inv .1 .1))
 
 same-length-3 : tie.Need-same-length-3 Inv-loop μ-loop
-same-length-3 c = omega (arith, c .before .loop .inv .1 .0, c .before .before .before .before .before .pre .1 .0)
+same-length-3 c = omega (arith, c .before .loop .inv .1 .0, c .before .before .before .before .before .before .before .before .pre .1 .1 .0)
 
 same-length-4 : tie.Need-same-length-4 Inv-loop μ-loop
-same-length-4 c = omega (arith, c .before .loop .inv .1 .1, c .before .before .before .before .before .pre .1 .1)
+same-length-4 c = omega (arith, c .before .loop .inv .1 .1, c .before .before .before .before .before .before .before .before .pre .1 .1 .1)
 
 returns-2 : tie.Need-returns-2 Inv-loop μ-loop
 returns-2 c = tt
