@@ -5,6 +5,7 @@ ghost use mathlib.Core.Path.{_≡_};
 ghost use Prim.Native.Nat.{_<_, _≤_};
 ghost use lib.ListN.{length};
 ghost use Rattle.parts.specs.Parts.{blockBytes, systemBytes, filesBytes, captureBytes, tilesBytes, halfBytes, borderMapBytes, borderPalettesBytes, borderBytes};
+ghost use Rattle.layout.specs.Valid.{Valid};
 ghost use Rattle.transfer.specs.Page.{planeByte, pageBytes, pageOf};
 ghost use Rattle.transfer.specs.Landing.{palettesLanded, filesLanded, tilesLanded, mapLanded};
 
@@ -150,53 +151,16 @@ pub extern "C" fn probe_color_at(block: &[u8], x: usize, y: usize, shade: usize)
 
 #[no_mangle]
 pub extern "C" fn probe_row(block: &[u8], y: usize, out: &mut [u16])
-    requires { ⌜ length (now block) ≡ blockBytes ⌝ }
+    requires { ⌜ Valid (now block) ⌝ }
     requires { ⌜ (y < 224) × (256 ≤ length (now out)) ⌝ }
 {
-    let mode = block[parts::MASK];
-    let in_force = block[parts::PRESET_ON] == 1;
-    let shown = screen::displayed_screen(
-        &block[parts::LIVE..parts::FROZEN],
-        &block[parts::FROZEN..parts::TILES],
-        mode,
-    );
-    picture::row(
-        &block[parts::PALETTES..parts::MAP],
-        &block[parts::PRESET..parts::PALETTES],
-        in_force,
-        &block[parts::MAP..parts::SYSTEM],
-        shown,
-        mode,
-        &block[parts::TILES..parts::BORDER_MAP],
-        &block[parts::BORDER_MAP..parts::BORDER_PALETTES],
-        &block[parts::BORDER_PALETTES..parts::BLOCK],
-        y,
-        out,
-    );
+    view::drawn::draw_row(block, y, out);
 }
 
 #[no_mangle]
 pub extern "C" fn probe_picture(block: &[u8], out: &mut [u16])
-    requires { ⌜ length (now block) ≡ blockBytes ⌝ }
+    requires { ⌜ Valid (now block) ⌝ }
     requires { ⌜ 57344 ≤ length (now out) ⌝ }
 {
-    let mode = block[parts::MASK];
-    let in_force = block[parts::PRESET_ON] == 1;
-    let shown = screen::displayed_screen(
-        &block[parts::LIVE..parts::FROZEN],
-        &block[parts::FROZEN..parts::TILES],
-        mode,
-    );
-    picture::picture(
-        &block[parts::PALETTES..parts::MAP],
-        &block[parts::PRESET..parts::PALETTES],
-        in_force,
-        &block[parts::MAP..parts::SYSTEM],
-        shown,
-        mode,
-        &block[parts::TILES..parts::BORDER_MAP],
-        &block[parts::BORDER_MAP..parts::BORDER_PALETTES],
-        &block[parts::BORDER_PALETTES..parts::BLOCK],
-        out,
-    );
+    view::drawn::draw_picture(block, out);
 }

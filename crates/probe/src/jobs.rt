@@ -4,7 +4,10 @@ ghost use mathlib.Core.Path.{_≡_};
 ghost use Prim.Native.Nat.{_*_, _≤_, _<_};
 ghost use lib.ListN.{length};
 ghost use Rattle.parts.specs.Parts.{blockBytes, captureBytes, storeBytes};
+ghost use Rattle.layout.specs.Block.{load};
 ghost use Rattle.layout.specs.Valid.{Valid};
+ghost use Rattle.picture.specs.Tables.{TablesOf};
+ghost use Rattle.view.specs.Drawn.{partsOf};
 ghost use mathlib.Core.Bool.{true};
 ghost use Rattle.line.specs.Line.{lineDigits};
 ghost use Rattle.log.specs.Steps.{desk, left};
@@ -88,7 +91,7 @@ pub extern "C" fn probe_plate(
         return 0;
     }
     read_log(input, block, line, bytes, command, text, false);
-    rows(block, words, text);
+    picture(block, words, text);
     PLATE
 }
 
@@ -176,12 +179,39 @@ fn chunk_size(rest: usize) -> usize
     }
 }
 
-fn rows(block: &[u8], words: &mut [u16], text: &mut [u8])
+fn picture(block: &[u8], words: &mut [u16], text: &mut [u8])
     requires { ⌜ Valid (now block) × ((length (now words) ≡ 256) × (229600 ≤ length (now text))) ⌝ }
+{
+    let mut spreads = [0u32; 512];
+    let mut border = [0u16; 48];
+    let mut game = [0u16; 16];
+    view::drawn::tables(block, &mut spreads, &mut border, &mut game);
+    rows(block, &spreads, &border, &game, words, text);
+}
+
+fn rows(
+    block: &[u8],
+    spreads: &[u32],
+    border: &[u16],
+    game: &[u16],
+    words: &mut [u16],
+    text: &mut [u8],
+)
+    requires { ⌜ Valid (now block) × ((length (now words) ≡ 256) × (229600 ≤ length (now text))) ⌝ }
+    requires { ⌜ TablesOf (partsOf (load (now block))) (now spreads) (now border) (now game) ⌝ }
 {
     let mut y: usize = 0;
     while y < 224 {
-        log::row_line(block, y, words, &mut text[ROW * y..ROW * y + ROW]);
+        let at = ROW * y;
+        log::row_line(
+            block,
+            spreads,
+            border,
+            game,
+            y,
+            words,
+            &mut text[at..at + ROW],
+        );
         y += 1;
     }
 }

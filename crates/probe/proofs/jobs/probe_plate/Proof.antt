@@ -21,8 +21,8 @@ read-log-requires c κs =
     let s = c .before .before .before .before .before .before .before .before .are-sized .ensures (not-false _ (c .before .before .before .before .before .before .before .if1 .left)) in
     (record { block-long = s .1 .0; line-long = s .1 .1 .0; bytes-long = s .1 .1 .1 .0; command-long = s .1 .1 .1 .1 }, s .0)
 
-rows-requires : tie.Need-rows-requires
-rows-requires c κs = search needs
+picture-requires : tie.Need-picture-requires
+picture-requires c κs = search needs
 
 same-length : tie.Need-same-length
 same-length c = search needs
@@ -54,7 +54,7 @@ probe-plate-spec =
     returns-2
     returns-3
     read-log-requires
-    rows-requires
+    picture-requires
     same-length
     same-length-2
     same-length-3

@@ -8,19 +8,16 @@ use Rattle.probe.proofs.jobs.rows.Statement.{statement}
 use Rattle.probe.proofs.jobs.rows.Tie as tie
 
 abbrev Inv-loop : tie.InvT-loop
-Inv-loop block words₀ text₀ y₀ words text y = (y ≤ 224) × ((length words ≡ 256) × (length text ≡ length text₀))
+Inv-loop block spreads border game words₀ text₀ y₀ words text y = (y ≤ 224) × ((length words ≡ 256) × (length text ≡ length text₀))
 
 abbrev μ-loop : tie.MeasureT-loop
-μ-loop block words₀ text₀ y₀ words text y = 224 - y
+μ-loop block spreads border game words₀ text₀ y₀ words text y = 224 - y
 
 loop-holds : tie.Need-loop-holds Inv-loop μ-loop
 loop-holds c = search needs
 
-mul-row-line : tie.Need-mul-row-line Inv-loop μ-loop
-mul-row-line c = search needs
-
-mul-row-line-2 : tie.Need-mul-row-line-2 Inv-loop μ-loop
-mul-row-line-2 c = search needs
+mul-at : tie.Need-mul-at Inv-loop μ-loop
+mul-at c = search needs
 
 add-row-line : tie.Need-add-row-line Inv-loop μ-loop
 add-row-line c = search needs
@@ -35,7 +32,7 @@ part-row-line-end : tie.Need-part-row-line-end Inv-loop μ-loop
 part-row-line-end c = search needs
 
 row-line-requires : tie.Need-row-line-requires Inv-loop μ-loop
-row-line-requires c κs = search needs
+row-line-requires c κs = ((search needs, search needs), (search needs, (search needs, search needs)))
 
 add-y : tie.Need-add-y Inv-loop μ-loop
 add-y c = search needs
@@ -62,8 +59,7 @@ rows-spec =
     Inv-loop
     μ-loop
     loop-holds
-    mul-row-line
-    mul-row-line-2
+    mul-at
     add-row-line
     sub-row-line
     part-row-line-start
