@@ -151,11 +151,11 @@ spelled-at (x ∷ (y ∷ s)) e (suc i) h =
     rw (t .bytes, a, b) (spelled-at s (t .rest) i (omega arith))
 
 -- a byte put in its place
-pub decode-turn : (s b m : List ℕ) (i h l : ℕ) → spells s ≡ true → 2 * i + 1 < length s → i < length b
-    → h ≡ nibble (getD s (2 * i) 0) → l ≡ nibble (getD s (2 * i + 1) 0) → m ≡ paste b 0 (spelled s) i
-    → set m i (h * 16 + l) ≡ paste b 0 (spelled s) (i + 1)
-decode-turn s b m i h l e hs hb eh el em =
+pub decode-turn : (s b m : List ℕ) (i v : ℕ) → spells s ≡ true → 2 * i + 1 < length s → i < length b
+    → v ≡ nibble (getD s (2 * i) 0) * 16 + nibble (getD s (2 * i + 1) 0) → m ≡ paste b 0 (spelled s) i
+    → set m i v ≡ paste b 0 (spelled s) (i + 1)
+decode-turn s b m i v e hs hb ev em =
     let n : i < length (spelled s) = omega (arith, length-spelled s e) in
-    let v : h * 16 + l ≡ getD (spelled s) i 0 = rw (eh, el) (sym (spelled-at s e i hs)) in
+    let at : v ≡ getD (spelled s) i 0 = ev ∙ sym (spelled-at s e i hs) in
     let z : 0 + i < length b = omega arith in
-    rw (em, v, add-one) (ap (λ (j : ℕ). set (paste b 0 (spelled s) i) j (getD (spelled s) i 0)) (sym (zero-add i)) ∙ paste-suc b 0 (spelled s) i 0 z n)
+    rw (em, at, add-one) (ap (λ (j : ℕ). set (paste b 0 (spelled s) i) j (getD (spelled s) i 0)) (sym (zero-add i)) ∙ paste-suc b 0 (spelled s) i 0 z n)

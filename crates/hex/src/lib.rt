@@ -7,8 +7,8 @@ ghost use lib.ListN.{length};
 ghost use Rattle.bits.specs.Over.{over};
 ghost use Rattle.hex.specs.Hex.{nibble, spells, spelled, capital, hexText};
 
-// The value of a digit of either case, or 16. Every byte of a log passes here twice, so the tests are such as become selections, and no
-// branch follows the digits: a line is read in half the time of the plain ranges (1.3 ns a write, not 2.7).
+// The value of a digit of either case, or 16. Every byte of a log passes here, so the tests are such as become selections, and no branch
+// follows the digits: a line is read in half the time of the plain ranges.
 pub fn digit(b: u8) -> u8
     ensures { λ r. ⌜ r ≡ nibble b ⌝ }
 {
@@ -60,9 +60,20 @@ pub fn decode(text: &[u8], bytes: &mut [u8])
     let n = text.len() / 2;
     let mut i: usize = 0;
     while i < n {
-        bytes[i] = digit(text[2 * i]) * 16 + digit(text[2 * i + 1]);
+        bytes[i] = two_digits(text[2 * i], text[2 * i + 1]);
         i += 1;
     }
+}
+
+// The byte that two digits spell. A digit's low half is its value, to which a letter, which has bit 6, adds 9. Both go in one word, which
+// is then one load: in half the time of a digit by itself.
+fn two_digits(high: u8, low: u8) -> u8
+    requires { ⌜ (nibble high < 16) × (nibble low < 16) ⌝ }
+    ensures { λ r. ⌜ r ≡ nibble high * 16 + nibble low ⌝ }
+{
+    let both = bits::word(high, low);
+    let values = (both & 0x0F0F) + (both >> 6 & 0x0101) * 9;
+    ((values << 4 | values >> 8) & 0xFF) as u8
 }
 
 // All of src in upper-case digits, from `at` on.

@@ -19,38 +19,27 @@ abbrev μ-loop : tie.MeasureT-loop
 loop-holds : tie.Need-loop-holds Inv-loop μ-loop
 loop-holds c = (omega arith, (omega arith, paste-zero _ 0 (spelled (c .before .before .args .text .now))))
 
-mul-digit : tie.Need-mul-digit Inv-loop μ-loop
-mul-digit c = omega arith
+mul-two-digits : tie.Need-mul-two-digits Inv-loop μ-loop
+mul-two-digits c = omega arith
 
-shared-slice-read-digit : tie.Need-shared-slice-read-digit Inv-loop μ-loop
-shared-slice-read-digit c = omega arith
+shared-slice-read-two-digits : tie.Need-shared-slice-read-two-digits Inv-loop μ-loop
+shared-slice-read-two-digits c = omega arith
 
-digit-requires : tie.Need-digit-requires Inv-loop μ-loop
-digit-requires c κs = tt
+mul-two-digits-2 : tie.Need-mul-two-digits-2 Inv-loop μ-loop
+mul-two-digits-2 c = omega arith
 
-mul-bytes : tie.Need-mul-bytes Inv-loop μ-loop
-mul-bytes c =
+add-two-digits : tie.Need-add-two-digits Inv-loop μ-loop
+add-two-digits c = omega arith
+
+shared-slice-read-two-digits-2 : tie.Need-shared-slice-read-two-digits-2 Inv-loop μ-loop
+shared-slice-read-two-digits-2 c = omega arith
+
+two-digits-requires : tie.Need-two-digits-requires Inv-loop μ-loop
+two-digits-requires c κs =
     let start = c .before .before .before .before .before .before in
+    let s = start .args .text .now in
     let i = c .before .before .before .loop .i in
-    omega (arith, digit-at (start .args .text .now) (start .pre .0) (2 * i) (omega arith))
-
-mul-digit-2 : tie.Need-mul-digit-2 Inv-loop μ-loop
-mul-digit-2 c = omega arith
-
-add-digit : tie.Need-add-digit Inv-loop μ-loop
-add-digit c = omega arith
-
-shared-slice-read-digit-2 : tie.Need-shared-slice-read-digit-2 Inv-loop μ-loop
-shared-slice-read-digit-2 c = omega arith
-
-digit-requires-2 : tie.Need-digit-requires-2 Inv-loop μ-loop
-digit-requires-2 c κs = tt
-
-add-bytes : tie.Need-add-bytes Inv-loop μ-loop
-add-bytes c =
-    let start = c .before .before .before .before .before .before .before .before in
-    let i = c .before .before .before .before .before .loop .i in
-    omega (arith, digit-at (start .args .text .now) (start .pre .0) (2 * i) (omega arith), digit-at (start .args .text .now) (start .pre .0) (2 * i + 1) (omega arith))
+    (digit-at s (start .pre .0) (2 * i) (omega arith), digit-at s (start .pre .0) (2 * i + 1) (omega arith))
 
 slice-write-bytes : tie.Need-slice-write-bytes Inv-loop μ-loop
 slice-write-bytes c = omega arith
@@ -63,14 +52,12 @@ loop-less c = omega arith
 
 loop-again : tie.Need-loop-again Inv-loop μ-loop
 loop-again c =
-    let start = c .before .before .before .before .before .before .before .before in
-    let l = c .before .before .before .before .before .loop in
-    let s = start .args .text .now in (
+    let start = c .before .before .before .before .before .before .before in
+    let l = c .before .before .before .before .loop in (
       omega arith,
       (
         simp length-set (l .inv .1 .0),
-        decode-turn s (start .args .bytes .now) (l .bytes) (l .i) _ _ (start .pre .0) (omega arith) (omega arith) (c .before .before .digit .ensures) (c .digit2 .ensures)
-            (l .inv .1 .1),
+        decode-turn (start .args .text .now) (start .args .bytes .now) (l .bytes) (l .i) _ (start .pre .0) (omega arith) (omega arith) (c .two-digits .ensures) (l .inv .1 .1),
       ),
     )
 
@@ -91,15 +78,12 @@ decode-spec =
     Inv-loop
     μ-loop
     loop-holds
-    mul-digit
-    shared-slice-read-digit
-    digit-requires
-    mul-bytes
-    mul-digit-2
-    add-digit
-    shared-slice-read-digit-2
-    digit-requires-2
-    add-bytes
+    mul-two-digits
+    shared-slice-read-two-digits
+    mul-two-digits-2
+    add-two-digits
+    shared-slice-read-two-digits-2
+    two-digits-requires
     slice-write-bytes
     add-i
     loop-less
