@@ -39,17 +39,17 @@ pub struct Reading {
 }
 
 // What a step has to tell: nothing, a command of so many packets that stands in the buffer, or that the line before the next is refused.
-pub enum Told {
+enum Told {
     Nothing,
     Command(u8),
     Refused,
 }
 
 // The reading after a step, how far the chunk is used up, and what is told.
-pub struct Step {
-    pub reading: Reading,
-    pub at: usize,
-    pub told: Told,
+struct Step {
+    reading: Reading,
+    at: usize,
+    told: Told,
 }
 
 // The reading after steps, how far the chunk is used up, the bytes of text, and whether the last step refused a line.
