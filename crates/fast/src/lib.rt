@@ -74,7 +74,7 @@ pub fn run_fast(start: Receiver, lines: Lines, mask: u8, writes: &[u8], store: &
 }
 
 // The lines and the joypad index after a write.
-fn after(lines: Lines, mask: u8, value: u8) -> Lines
+pub fn after(lines: Lines, mask: u8, value: u8) -> Lines
     requires { ⌜ lines .index < 255 ⌝ }
     ensures { λ r. ⌜ r ≡ linesAfter lines mask value ⌝ }
 {
