@@ -9,7 +9,8 @@ use lib.Dec.{lit<}
 use lib.ListN.{length, getD, drop}
 use lib.Bits.{bitAnd, bitOr, and-mask, and-high, and-block, or-shifted-r}
 use lib.Pow.{shl-exact, shr-shr}
-use Rattle.fast.specs.Fast.{eightAt, Feeds}
+use Rattle.bits.specs.Eight.{eightAt}
+use Rattle.fast.specs.Fast.{Feeds}
 use Rattle.fast.proofs.Feeds.{linesOf, feeds-none, feeds-more, feeds-then}
 use Rattle.fast.proofs.Passes.{Gathering, stack}
 

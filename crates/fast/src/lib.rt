@@ -7,7 +7,7 @@ ghost use Rattle.receiver.specs.Receive.{rxOf, Sound};
 ghost use Rattle.receiver.specs.declared.Stage.the-variants.{Receiving};
 ghost use Rattle.run.specs.Run.{runs, portOf, endedOf, Ready};
 ghost use Rattle.fast.specs.Fast.{linesAfter, released, Passed};
-use gather::eight;
+use bits::eight;
 use gather::gather;
 use polling::index_rises;
 use polling::wait;

@@ -9,7 +9,7 @@ ghost use Rattle.receiver.specs.declared.Stage.the-variants.{Receiving};
 ghost use Rattle.fast.specs.Fast.{rises, Passed};
 use crate::Fed;
 use crate::after;
-use crate::gather::eight;
+use bits::eight;
 use receiver::Receiver;
 use receiver::lines::both_high;
 use receiver::lines::p15_high;
