@@ -13,11 +13,6 @@ use lib.Dec.{eqb}
 use Rattle.bits.specs.Zero.{zeros}
 use Rattle.bits.proofs.Tests.{and-left, and-right, and-assoc, and-yes}
 
-pub zeros-all : (l : List ℕ) → ((k : ℕ) → k < length l → getD l k 0 ≡ 0) → true ≡ zeros l
-unfolding zeros
-zeros-all [] h = refl
-zeros-all (x ∷ xs) h = simp (eq-eqb x 0 (h 0 (suc-le-suc zero-le))) (zeros-all xs (λ k lt. h (suc k) (suc-le-suc lt)))
-
 -- ---- a turn of the loop that looks at all of them, and its end
 
 or-zero : (a b : ℕ) → eqb (bitOr a b) 0 ≡ (eqb a 0 && eqb b 0)
@@ -54,7 +49,8 @@ zeros-at (x ∷ xs) e (suc k) = zeros-at xs (and-right (eqb x 0) (zeros xs) e) k
 
 -- a list of which each element is zero is so many zeros
 pub all-zeros : (l : List ℕ) → ((k : ℕ) → k < length l → getD l k 0 ≡ 0) → l ≡ replicate (length l) 0
-all-zeros l h = sym (zeros-replicate l (sym (zeros-all l h)))
+all-zeros [] h = refl
+all-zeros (x ∷ xs) h = λ t. h 0 (suc-le-suc zero-le) t ∷ all-zeros xs (λ k lt. h (suc k) (suc-le-suc lt)) t
 
 pub zeros-drop : (k : ℕ) (l : List ℕ) → zeros l ≡ true → zeros (drop k l) ≡ true
 unfolding zeros

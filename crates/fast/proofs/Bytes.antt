@@ -89,21 +89,22 @@ held [] = 0
 held (d ∷ []) = 0
 held (d ∷ e ∷ ds) = stays (p15High d) e + held (e ∷ ds)
 
--- 256 is 1 modulo 255
-pub record Folds (x n : ℕ) : Type 0 where
+-- x is n modulo m
+pub record Folds (m x n : ℕ) : Type 0 where
   pub times : ℕ
-  pub is : x ≡ n + times * 255
+  pub is : x ≡ n + times * m
 
-fold-more : (x n b : ℕ) → Folds x n → Folds (x * 256 + b) (b + n)
+pub folded : (m x n : ℕ) → Folds m x n → n < m → x % m ≡ n
+folded m x n f h = ap (λ (y : ℕ). y % m) (f .is) ∙ add-mul-mod-self-right n (f .times) m ∙ mod-eq-of-lt h
+
+-- 256 is 1 modulo 255
+fold-more : (x n b : ℕ) → Folds 255 x n → Folds 255 (x * 256 + b) (b + n)
 fold-more x n b f = record { times = n + f .times * 256; is = omega (arith, f .is) }
 
-pub fold-highs : (ds : List ℕ) → Folds (highs ds) (howMany ds)
+fold-highs : (ds : List ℕ) → Folds 255 (highs ds) (howMany ds)
 unfolding highs howMany
 fold-highs [] = record { times = 0; is = refl }
 fold-highs (d ∷ ds) = fold-more (highs ds) (howMany ds) (bit5 d) (fold-highs ds)
-
-pub folded : (x n : ℕ) → Folds x n → n < 255 → x % 255 ≡ n
-folded x n f h = ap (λ (y : ℕ). y % 255) (f .is) ∙ add-mul-mod-self-right n (f .times) 255 ∙ mod-eq-of-lt h
 
 meets : (b c : ℕ) → b < 2 → c < 2 → bitAnd b c ≡ cond (eqb b 1) c 0
 meets zero zero h k = refl
@@ -117,7 +118,7 @@ meets (suc zero) (suc (suc c)) h k = absurd (omega arith)
 small5 : (d : ℕ) → bit5 d < 2
 small5 d = mod-lt (d / 32) (lit< tt)
 
-pub fold-held : (ds : List ℕ) → Folds (bitAnd (highs ds) (highs ds / 256)) (held ds)
+fold-held : (ds : List ℕ) → Folds 255 (bitAnd (highs ds) (highs ds / 256)) (held ds)
 unfolding highs held stays p15High bitOf
 fold-held [] = record { times = 0; is = refl }
 fold-held (d ∷ []) =
@@ -163,8 +164,8 @@ counted was d ds h =
     let all : List ℕ = d ∷ ds in
     let t = all-told was d ds in
     let l = few all in
-    let a = folded (highs all) (howMany all) (fold-highs all) (omega arith) in
-    let b = folded (bitAnd (highs all) (highs all / 256)) (held all) (fold-held all) (omega arith) in
+    let a = folded 255 (highs all) (howMany all) (fold-highs all) (omega arith) in
+    let b = folded 255 (bitAnd (highs all) (highs all / 256)) (held all) (fold-held all) (omega arith) in
     ap₂ (λ (y z : ℕ). y - z - stays was d) a b ∙ omega arith
 
 pub enough : (was : Bool) (d : ℕ) (ds : List ℕ) → length (d ∷ ds) < 255
@@ -173,8 +174,8 @@ enough was d ds h =
     let all : List ℕ = d ∷ ds in
     let t = all-told was d ds in
     let l = few all in
-    let a = folded (highs all) (howMany all) (fold-highs all) (omega arith) in
-    let b = folded (bitAnd (highs all) (highs all / 256)) (held all) (fold-held all) (omega arith) in
+    let a = folded 255 (highs all) (howMany all) (fold-highs all) (omega arith) in
+    let b = folded 255 (bitAnd (highs all) (highs all / 256)) (held all) (fold-held all) (omega arith) in
     omega arith
 
 -- the first one, with what was before it

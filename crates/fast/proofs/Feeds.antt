@@ -4,7 +4,6 @@ use mathlib.Core.Bool.{true, false}
 use mathlib.Core.List.{List, _∷_}
 use Prim.Native.Nat.{ℕ, zero, suc, _+_, _*_, _/_, _%_, _^_, _<_}
 use native.Mathlib.Nat.{mul-assoc, mul-comm, add-mul}
-use native.Mathlib.Numerals.{add-one}
 use native.Mathlib.Omega.{arith}
 use lib.Bits.{bitAnd}
 use lib.ListN.{length, getD, drop}
@@ -18,10 +17,6 @@ use Rattle.receiver.specs.Store.{filed, packetsOf}
 use Rattle.run.specs.Run.{lined, onward, runs}
 use Rattle.fast.specs.Fast.{rises, live, Feeds}
 use Rattle.fast.proofs.Rises.{rises-add}
-
--- the two lines of a written byte as a number: P14 is its bit 0, P15 its bit 1
-abbrev pub linesOf : ℕ → ℕ
-linesOf v = v / 16 % 4
 
 p14-set : (v : ℕ) → v / 16 % 2 ≡ 1 → p14High v ≡ true
 unfolding p14High bitOf
@@ -40,40 +35,23 @@ unfolding p15High bitOf
 p15-clear v h = ne-eqb (v / 32 % 2) 1 (λ e. omega arith)
 
 -- a data pulse and its release, of a one and of a zero
-module _ (mask i x e r b p : ℕ) (s : List ℕ) (a c : ℕ) (rest : List ℕ) (h : b < 128) (lc : linesOf c ≡ 3) where
-  pair-one : linesOf a ≡ 1
+module _ (mask i x e r b p : ℕ) (s : List ℕ) (a c : ℕ) (rest : List ℕ) (h : b < 128) (lc : c / 16 % 4 ≡ 3) where
+  pair-one : a / 16 % 2 ≡ 1 → a / 32 % 2 ≡ 0
       → runs mask i x (live e r b p s) (a ∷ c ∷ rest) ≡ runs mask (suc (suc i)) (bitAnd (x + 1) mask) (live e r (b + 1) (p + 1 * 2 ^ b) s) rest
   unfolding runs onward lined packetsOf filed written pulsed whenReceiving clocked quiet dataBit indexed pulseOf pulseBy bothHigh
-  pair-one la =
-      rw (
-        p14-set a (omega arith),
-        p15-clear a (omega arith),
-        lt-ltb b 128 h,
-        p14-set c (omega arith),
-        p15-set c (omega arith),
-      )
+  pair-one l k = rw (p14-set a l, p15-clear a k, lt-ltb b 128 h, p14-set c (omega arith), p15-set c (omega arith))
 
-  pair-zero : linesOf a ≡ 2
+  pair-zero : a / 16 % 2 ≡ 0 → a / 32 % 2 ≡ 1
       → runs mask i x (live e r b p s) (a ∷ c ∷ rest) ≡ runs mask (suc (suc i)) x (live e r (b + 1) (p + 0 * 2 ^ b) s) rest
   unfolding runs onward lined packetsOf filed written pulsed whenReceiving clocked quiet dataBit indexed pulseOf pulseBy bothHigh
-  pair-zero la =
-      rw (
-        p14-clear a (omega arith),
-        p15-set a (omega arith),
-        lt-ltb b 128 h,
-        p14-set c (omega arith),
-        p15-set c (omega arith),
-      )
+  pair-zero l k = rw (p14-clear a l, p15-set a k, lt-ltb b 128 h, p14-set c (omega arith), p15-set c (omega arith))
 
-  pair : (l : ℕ) → linesOf a ≡ l → l < 4 → (l ≡ 0 → ⊥) → (l ≡ 3 → ⊥)
-      → runs mask i x (live e r b p s) (a ∷ c ∷ rest)
-      ≡ runs mask (suc (suc i)) (rises (l % 2) x mask) (live e r (b + 1) (p + l % 2 * 2 ^ b) s) rest
+  pair : (t : ℕ) → a / 16 % 2 ≡ t → a / 16 % 2 + a / 32 % 2 ≡ 1
+      → runs mask i x (live e r b p s) (a ∷ c ∷ rest) ≡ runs mask (suc (suc i)) (rises t x mask) (live e r (b + 1) (p + t * 2 ^ b) s) rest
   unfolding rises
-  pair zero la k f g = absurd (f refl)
-  pair (suc zero) la k f g = pair-one la
-  pair (suc (suc zero)) la k f g = pair-zero la
-  pair (suc (suc (suc zero))) la k f g = absurd (g refl)
-  pair (suc (suc (suc (suc l)))) la k f g = absurd (omega arith)
+  pair zero l k = pair-zero l (omega arith)
+  pair (suc zero) l k = pair-one l (omega arith)
+  pair (suc (suc t)) l k = absurd (omega arith)
 
 -- the value of the bits from b on: v, and t at n bits further
 further : (p v b n t : ℕ) → p + v * 2 ^ b + t * 2 ^ (b + n) ≡ p + (v + t * 2 ^ n) * 2 ^ b
@@ -84,7 +62,7 @@ further p v b n t =
     let d : (v + t * 2 ^ n) * 2 ^ b ≡ v * 2 ^ b + t * 2 ^ n * 2 ^ b = add-mul v (t * 2 ^ n) (2 ^ b) in
     omega arith
 
--- ---- no pulse, one more, and some after others
+-- ---- no pulse, one, and some after others
 
 pub feeds-none : (ws : List ℕ) → Feeds ws ws 0 0 0
 unfolding Feeds rises
@@ -94,26 +72,20 @@ feeds-none ws mask i x e r b p s h =
     let ps : p ≡ p + 0 * 2 ^ b = omega arith in
     ap₂ (λ (j c : ℕ). runs mask j x (live e r c p s) ws) at bs ∙ ap (λ (q : ℕ). runs mask (i + 2 * 0) x (live e r (b + 0) q s) ws) ps
 
-two-of : (all : List ℕ) (i : ℕ) → i + 1 < length all → drop i all ≡ getD all i 0 ∷ getD all (i + 1) 0 ∷ drop (i + 2) all
-two-of all i h =
-    let next : suc (i + 1) ≡ i + 2 = omega arith in
-    drop-cons all i 0 (omega arith)
-    ∙ ap (λ (y : List ℕ). getD all i 0 ∷ y)
-    (ap (λ (q : ℕ). drop q all) (sym (add-one i)) ∙ drop-cons all (i + 1) 0 h ∙ ap (λ (q : ℕ). getD all (i + 1) 0 ∷ drop q all) next)
-
-pub feeds-more : (ws all : List ℕ) (i n v o l : ℕ) → i + 1 < length all → l ≡ linesOf (getD all i 0) → linesOf (getD all (i + 1) 0) ≡ 3
-    → (l ≡ 0 → ⊥) → (l ≡ 3 → ⊥) → Feeds ws (drop i all) n v o → Feeds ws (drop (i + 2) all) (n + 1) (v + l % 2 * 2 ^ n) (o + l % 2)
+pub feeds-one : (all : List ℕ) (i j k : ℕ) → suc i ≡ j → suc j ≡ k → j < length all
+    → getD all i 0 / 16 % 2 + getD all i 0 / 32 % 2 ≡ 1 → getD all j 0 / 16 % 4 ≡ 3
+    → Feeds (drop i all) (drop k all) 1 (getD all i 0 / 16 % 2) (getD all i 0 / 16 % 2)
 unfolding Feeds
-feeds-more ws all i n v o l h la lc f g F mask j x e r b p s hb =
-    let t : ℕ = l % 2 in
-    let small : l < 4 = omega arith in
-    let at : suc (suc (j + 2 * n)) ≡ j + 2 * (n + 1) = omega arith in
-    let bs : b + n + 1 ≡ b + (n + 1) = omega arith in
-    F mask j x e r b p s (omega arith)
-    ∙ ap (runs mask (j + 2 * n) (rises o x mask) (live e r (b + n) (p + v * 2 ^ b) s)) (two-of all i h)
-    ∙ pair mask (j + 2 * n) (rises o x mask) e r (b + n) (p + v * 2 ^ b) s _ _ (drop (i + 2) all) (omega arith) lc l (sym la) small f g
-    ∙ ap₂ (λ (q c : ℕ). runs mask q (rises t (rises o x mask) mask) (live e r c (p + v * 2 ^ b + t * 2 ^ (b + n)) s) (drop (i + 2) all)) at bs
-    ∙ ap₂ (λ (q y : ℕ). runs mask (j + 2 * (n + 1)) y (live e r (b + (n + 1)) q s) (drop (i + 2) all)) (further p v b n t) (rises-add t o x mask)
+feeds-one all i j k next after h l lc mask q x e r b p s hb =
+    let a : ℕ = getD all i 0 in
+    let c : ℕ = getD all j 0 in
+    let two : drop i all ≡ a ∷ c ∷ drop k all =
+    drop-cons all i 0 (omega arith)
+    ∙ ap (λ (y : List ℕ). a ∷ y) (ap (λ (d : ℕ). drop d all) next ∙ drop-cons all j 0 h ∙ ap (λ (d : ℕ). c ∷ drop d all) after) in
+    let at : suc (suc q) ≡ q + 2 * 1 = omega arith in
+    ap (runs mask q x (live e r b p s)) two
+    ∙ pair mask q x e r b p s a c (drop k all) (omega arith) lc (a / 16 % 2) refl l
+    ∙ ap (λ (d : ℕ). runs mask d (rises (a / 16 % 2) x mask) (live e r (b + 1) (p + a / 16 % 2 * 2 ^ b) s) (drop k all)) at
 
 pub feeds-then : (ws mid rest : List ℕ) (n v o m w q : ℕ) → Feeds ws mid n v o → Feeds mid rest m w q
     → Feeds ws rest (n + m) (v + w * 2 ^ n) (o + q)

@@ -10,6 +10,7 @@ use lib.Dec.{lit<}
 use lib.Bits.{bitAnd}
 use lib.ListN.{length, getD, drop}
 use lib.Seq.{drop-cons}
+use Rattle.bits.specs.Eight.{eightAt}
 use Rattle.receiver.specs.declared.Stage.the-variants.{Receiving}
 use Rattle.receiver.specs.declared.Receiver.{Receiver}
 use Rattle.receiver.specs.Lines.{p15High, bothHigh, indexed}
@@ -18,7 +19,7 @@ use Rattle.run.specs.Run.{runs, portOf}
 use Rattle.run.specs.declared.Lines.{Lines}
 use Rattle.run.proofs.Turns.{port}
 use Rattle.fast.specs.declared.Fed.{Fed}
-use Rattle.fast.specs.Fast.{eightAt, rises, Passed}
+use Rattle.fast.specs.Fast.{rises, Passed}
 use Rattle.fast.proofs.Rises.{risesAt, rises-add, rises-at, rises-small}
 use Rattle.fast.proofs.Waits.{passes}
 use Rattle.fast.proofs.Bytes.{num, same, Small, Calm, calm-none, calm-more, calm, highs, high-bits, rose, counted, enough, first, rises-few}

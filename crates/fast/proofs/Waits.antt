@@ -24,7 +24,7 @@ use Rattle.run.specs.Run.{lined, onward, runs, portOf}
 use Rattle.run.specs.declared.Lines.{Lines}
 use Rattle.run.proofs.Turns.{port, index-small}
 use Rattle.fast.specs.declared.Fed.{Fed}
-use Rattle.fast.specs.Fast.{Passed}
+use Rattle.fast.specs.Fast.{linesAfter, Passed}
 use Rattle.fast.proofs.Rises.{risesAt}
 
 -- the stage by its number
@@ -72,15 +72,12 @@ module _ (mask i : ℕ) (rx : Receiver) (l : Lines) (ws : List ℕ) (h : i < len
   beyond =
       record {
         rx = rx;
-        lines = record {
-          p15 = p15High (getD ws i 0);
-          both = bothHigh (getD ws i 0);
-          index = indexed (l .index) mask (l .p15) (getD ws i 0);
-        };
+        lines = linesAfter l mask (getD ws i 0);
         at = i + 1;
       }
 
   pub passed-one : Passed mask i rx l ws beyond
+  unfolding linesAfter
   passed-one =
       record {
         onto = omega arith;

@@ -5,7 +5,7 @@ use mathlib.Core.Path.{_≡_}
 use mathlib.Core.Bool.{true}
 use mathlib.Core.List.{List}
 use lib.Bits.{bitAnd}
-use lib.ListN.{length, getD, drop}
+use lib.ListN.{length, drop}
 use Rattle.receiver.specs.declared.Stage.the-variants.{Receiving}
 use Rattle.receiver.specs.declared.Receiver.{Receiver}
 use Rattle.receiver.specs.Receive.{rxOf, Sound}
@@ -15,12 +15,6 @@ use Rattle.run.specs.Run.{runs, portOf}
 use Rattle.run.specs.declared.Lines.{Lines}
 use Rattle.fast.specs.declared.gather.Gathered.{Gathered}
 use Rattle.fast.specs.declared.Fed.{Fed}
-
--- eight bytes from a place as a number, the first one lowest
-unfoldable pub eightAt : List ℕ → ℕ → ℕ
-eightAt w i =
-    getD w i 0 + getD w (i + 1) 0 * 256 + getD w (i + 2) 0 * 65536 + getD w (i + 3) 0 * 16777216 + getD w (i + 4) 0 * 4294967296
-    + getD w (i + 5) 0 * 1099511627776 + getD w (i + 6) 0 * 281474976710656 + getD w (i + 7) 0 * 72057594037927936
 
 -- the joypad index after P15 rose n times
 unfoldable pub rises : ℕ → ℕ → ℕ → ℕ

@@ -1,8 +1,8 @@
 // Data pulses by the word: 64 of them, four at a time, as long as each has its release.
-ghost use mathlib.Core.Path.{_≡_};
-ghost use Prim.Native.Nat.{_+_, _<_, _≤_};
+ghost use Prim.Native.Nat.{_≤_};
 ghost use lib.ListN.{length};
-ghost use Rattle.fast.specs.Fast.{eightAt, Gave};
+ghost use Rattle.fast.specs.Fast.{Gave};
+use bits::eight;
 
 // Pulses that were taken: their bits as a number, how many, the ones among them, and the place after them.
 pub struct Gathered {
@@ -10,27 +10,6 @@ pub struct Gathered {
     pub count: u8,
     pub ones: u8,
     pub at: usize,
-}
-
-fn wide(b: u8) -> u64
-    ensures { λ r. ⌜ (r ≡ b) × (r < 256) ⌝ }
-{
-    b as u64
-}
-
-// Eight bytes as a word, the first one lowest: in this flat form they become one load.
-pub fn eight(w: &[u8], i: usize) -> u64
-    requires { ⌜ i + 7 < length (now w) ⌝ }
-    ensures { λ r. ⌜ r ≡ eightAt (now (w .entry)) i ⌝ }
-{
-    wide(w[i])
-        | wide(w[i + 1]) << 8
-        | wide(w[i + 2]) << 16
-        | wide(w[i + 3]) << 24
-        | wide(w[i + 4]) << 32
-        | wide(w[i + 5]) << 40
-        | wide(w[i + 6]) << 48
-        | wide(w[i + 7]) << 56
 }
 
 // Four pulses with their releases are the word's four lanes of sixteen bits. A lane's high byte has both lines high, and of its low

@@ -7,7 +7,7 @@ ghost use Rattle.receiver.specs.Receive.{rxOf, Sound};
 ghost use Rattle.receiver.specs.declared.Stage.the-variants.{Receiving};
 ghost use Rattle.run.specs.Run.{runs, portOf, endedOf, Ready};
 ghost use Rattle.fast.specs.Fast.{linesAfter, released, Passed};
-use gather::eight;
+use bits::eight;
 use gather::gather;
 use polling::index_rises;
 use polling::wait;
@@ -74,7 +74,7 @@ pub fn run_fast(start: Receiver, lines: Lines, mask: u8, writes: &[u8], store: &
 }
 
 // The lines and the joypad index after a write.
-fn after(lines: Lines, mask: u8, value: u8) -> Lines
+pub fn after(lines: Lines, mask: u8, value: u8) -> Lines
     requires { ⌜ lines .index < 255 ⌝ }
     ensures { λ r. ⌜ r ≡ linesAfter lines mask value ⌝ }
 {

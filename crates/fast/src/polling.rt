@@ -8,10 +8,10 @@ ghost use Rattle.receiver.specs.Receive.{rxOf, Sound};
 ghost use Rattle.receiver.specs.declared.Stage.the-variants.{Receiving};
 ghost use Rattle.fast.specs.Fast.{rises, Passed};
 use crate::Fed;
-use crate::gather::eight;
+use crate::after;
+use bits::eight;
 use receiver::Receiver;
 use receiver::lines::both_high;
-use receiver::lines::index_after;
 use receiver::lines::p15_high;
 use run::Lines;
 
@@ -71,27 +71,19 @@ fn by_one(rx: Receiver, lines: Lines, mask: u8, writes: &[u8], from: usize) -> F
     requires { ⌜ ((rx .stage ≡ Receiving → ⊥) × Sound (rxOf rx)) × (((lines .index < 255) × (mask < 255)) × (from ≤ length (now writes))) ⌝ }
     ensures { λ r. ⌜ Passed mask from rx lines (now (writes .entry)) r ⌝ }
 {
-    let mut p15 = lines.p15;
-    let mut both = lines.both;
-    let mut index = lines.index;
+    let mut here = lines;
     let mut i = from;
     while i < writes.len() {
         let v = writes[i];
         if v & 0x30 == 0 {
             break;
         }
-        index = index_after(index, mask, p15, v);
-        p15 = p15_high(v);
-        both = both_high(v);
+        here = after(here, mask, v);
         i += 1;
     }
     Fed {
         rx: rx,
-        lines: Lines {
-            p15: p15,
-            both: both,
-            index: index,
-        },
+        lines: here,
         at: i,
     }
 }

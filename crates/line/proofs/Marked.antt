@@ -1,6 +1,6 @@
 -- A held line grows by what comes up to the next LF, however the input is cut (`marked-more`, `marked-line`, `chunks-give-lines`); and
 -- marked lines mean what the lines mean (`marked-meanings`).
-use Prim.Native.Nat.{ℕ, suc, _+_, _-_, _≤_, _<_}
+use Prim.Native.Nat.{ℕ, suc, _+_, _≤_, _<_}
 use mathlib.Core.Bool.{Bool, true, false, cond}
 use mathlib.Core.Path.{_≡_, refl, ap, sym, _∙_}
 use mathlib.Core.Option.{Option, none, some}

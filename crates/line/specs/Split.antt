@@ -29,6 +29,10 @@ upToLf s = take (indexOf 10 s) s
 unfoldable pub lfAt : List ℕ → ℕ → ℕ
 lfAt chunk at = at + indexOf 10 (drop at chunk)
 
+-- the bytes that are looked at at once for an LF
+abbrev pub stride : ℕ
+stride = 64
+
 -- what is held after q has joined, and the buffer
 unfoldable pub tookHeld : Held → List ℕ → Held
 tookHeld h q =

@@ -6,7 +6,7 @@ ghost use Prim.Native.Nat.{_+_, _≤_};
 ghost use lib.Dec.{eqb};
 ghost use lib.ListN.{length, drop};
 ghost use Rattle.line.specs.Line.{lineDigits};
-ghost use Rattle.line.specs.Split.{upToLf, lfAt, tookLine, taken};
+ghost use Rattle.line.specs.Split.{upToLf, lfAt, stride, tookLine, taken};
 use crate::LINE_DIGITS;
 use bits::put;
 
@@ -80,7 +80,7 @@ fn find_lf(chunk: &[u8], at: usize) -> usize
 // Whether a whole stride is left and has no LF.
 fn is_clear(chunk: &[u8], at: usize) -> bool
     requires { ⌜ at ≤ length (now chunk) ⌝ }
-    ensures { λ r. ⌜ ((r ≡ true) → ((at + 64 ≤ length (now (chunk .entry))) × (lfAt (now (chunk .entry)) at ≡ lfAt (now (chunk .entry)) (at + 64)))) ⌝ }
+    ensures { λ r. ⌜ ((r ≡ true) → ((at + stride ≤ length (now (chunk .entry))) × (lfAt (now (chunk .entry)) at ≡ lfAt (now (chunk .entry)) (at + stride)))) ⌝ }
 {
     if chunk.len() - at < STRIDE {
         return false;
@@ -90,8 +90,8 @@ fn is_clear(chunk: &[u8], at: usize) -> bool
 
 // How many LF a stride has.
 fn count_lf(chunk: &[u8], at: usize) -> u8
-    requires { ⌜ at + 64 ≤ length (now chunk) ⌝ }
-    ensures { λ r. ⌜ ((r ≡ 0) → (lfAt (now (chunk .entry)) at ≡ lfAt (now (chunk .entry)) (at + 64))) ⌝ }
+    requires { ⌜ at + stride ≤ length (now chunk) ⌝ }
+    ensures { λ r. ⌜ ((r ≡ 0) → (lfAt (now (chunk .entry)) at ≡ lfAt (now (chunk .entry)) (at + stride))) ⌝ }
 {
     let mut n: u8 = 0;
     let mut j: usize = 0;

@@ -1,15 +1,16 @@
--- A word is the number of its eight bytes, since the shifted bytes share no bit; two such words, the low one first, are the number of
--- the sixteen bytes, and the other way round.
+-- A word is the number of its eight bytes; two such words, the low one first, are the number of the sixteen bytes, and the other way
+-- round.
 use mathlib.Core.Path.{_≡_, refl, sym, ap, _∙_}
 use mathlib.Core.List.{List, [], _∷_, _++_, append-assoc}
 use Prim.Native.Nat.{ℕ, zero, suc, _+_, _*_, _/_, _%_, _^_, _<_, _≤_}
 use native.Mathlib.Nat.{pow-suc, zero-add, suc-add, mul-assoc}
 use native.Mathlib.Omega.{arith}
-use lib.Bits.{bitAnd, bitOr, and-mask}
+use lib.Bits.{bitAnd, and-mask}
 use lib.ListN.{length, take, drop, getD, set, length-append}
 use lib.Seq.{drop-cons, take-add, drop-drop, take-at, drop-at, length-take-le}
+use Rattle.bits.specs.Eight.{eightAt}
 use Rattle.bits.specs.Over.{part, over}
-use Rattle.bits.proofs.Eights.{eight-bytes, store-eight}
+use Rattle.bits.proofs.Eights.{store-eight}
 use Rattle.bits.proofs.Overs.{length-part}
 use Rattle.layout.specs.Block.{valueOf}
 use Rattle.receiver.specs.Receive.{words}
@@ -18,27 +19,14 @@ use Rattle.receiver.proofs.Words.{length-bytes}
 
 -- ---- from bytes
 
-abbrev eight : ℕ → ℕ → ℕ → ℕ → ℕ → ℕ → ℕ → ℕ → ℕ
-eight b0 b1 b2 b3 b4 b5 b6 b7 =
-    b0 + 256 * (b1 + 256 * (b2 + 256 * (b3 + 256 * (b4 + 256 * (b5 + 256 * (b6 + 256 * (b7 + 256 * 0)))))))
-
-pub or-eight : (b0 b1 b2 b3 b4 b5 b6 b7 : ℕ) → b0 < 256 → b1 < 256 → b2 < 256 → b3 < 256 → b4 < 256 → b5 < 256 → b6 < 256 → b7 < 256
-    → bitOr (bitOr (bitOr (bitOr (bitOr (bitOr (bitOr b0 ((b1 * 2 ^ 8) % 18446744073709551616)) ((b2 * 2 ^ 16) % 18446744073709551616))
-    ((b3 * 2 ^ 24) % 18446744073709551616)) ((b4 * 2 ^ 32) % 18446744073709551616)) ((b5 * 2 ^ 40) % 18446744073709551616))
-    ((b6 * 2 ^ 48) % 18446744073709551616)) ((b7 * 2 ^ 56) % 18446744073709551616)
-    ≡ eight b0 b1 b2 b3 b4 b5 b6 b7
-or-eight b0 b1 b2 b3 b4 b5 b6 b7 h0 h1 h2 h3 h4 h5 h6 h7 = eight-bytes b0 b1 b2 b3 b4 b5 b6 b7 h0 h1 h2 h3 h4 h5 h6 h7 ∙ omega arith
-
 -- the first n elements from `at` on, one by one
 part-cons : (b : List ℕ) (at next n : ℕ) → suc at ≡ next → at + suc n ≤ length b → part at (suc n) b ≡ getD b at 0 ∷ part next n b
 part-cons b at next n e h = ap (take (suc n)) (drop-cons b at 0 (omega arith)) ∙ ap (λ (k : ℕ). getD b at 0 ∷ take n (drop k b)) e
 
-pub value-eight : (b : List ℕ) (at : ℕ) → at + 8 ≤ length b
-    → eight (getD b at 0) (getD b (at + 1) 0) (getD b (at + 2) 0) (getD b (at + 3) 0) (getD b (at + 4) 0) (getD b (at + 5) 0) (getD b (at + 6) 0) (getD b (at + 7) 0)
-    ≡ valueOf (part at 8 b)
-unfolding valueOf
+pub value-eight : (b : List ℕ) (at : ℕ) → at + 8 ≤ length b → eightAt b at ≡ valueOf (part at 8 b)
+unfolding eightAt valueOf
 value-eight b at h =
-    sym (rw (
+    rw (
       part-cons b at (at + 1) 7 (omega arith) (omega arith),
       part-cons b (at + 1) (at + 2) 6 (omega arith) (omega arith),
       part-cons b (at + 2) (at + 3) 5 (omega arith) (omega arith),
@@ -47,7 +35,7 @@ value-eight b at h =
       part-cons b (at + 5) (at + 6) 2 (omega arith) (omega arith),
       part-cons b (at + 6) (at + 7) 1 (omega arith) (omega arith),
       part-cons b (at + 7) (at + 8) 0 (omega arith) (omega arith),
-    ))
+    ) (omega arith)
 
 value-append : (l m : List ℕ) → valueOf (l ++ m) ≡ valueOf l + 256 ^ length l * valueOf m
 unfolding valueOf

@@ -1,32 +1,19 @@
 // The packet that is coming in, as it stands in the block and as the receiver has it: sixteen bytes, the lowest first, and two words.
 // Document 01, The unit block ("16 current packet (16)"). The meaning of the bytes is `valueOf` and `bytesOf`.
 ghost use mathlib.Core.Path.{_≡_};
-ghost use Prim.Native.Nat.{_+_, _≤_, _<_};
+ghost use Prim.Native.Nat.{_+_, _≤_};
 ghost use lib.ListN.{length};
 ghost use Rattle.bits.specs.Over.{part, over};
 ghost use Rattle.layout.specs.Block.{valueOf};
 ghost use Rattle.receiver.specs.Store.{bytesOf};
+use bits::eight;
 
-// A byte as a word.
-fn wide(b: u8) -> u64
-    ensures { λ r. ⌜ (r ≡ b) × (r < 256) ⌝ }
-{
-    b as u64
-}
-
-// Half a packet: the eight bytes from `at` on as a word. Written out, it is a single load; as a loop it was eight.
+// Half a packet: the eight bytes from `at` on as a word.
 pub fn half(bytes: &[u8], at: usize) -> u64
     requires { ⌜ at + 8 ≤ length (now bytes) ⌝ }
     ensures { λ r. ⌜ r ≡ valueOf (part at 8 (now (bytes .entry))) ⌝ }
 {
-    wide(bytes[at])
-        | wide(bytes[at + 1]) << 8
-        | wide(bytes[at + 2]) << 16
-        | wide(bytes[at + 3]) << 24
-        | wide(bytes[at + 4]) << 32
-        | wide(bytes[at + 5]) << 40
-        | wide(bytes[at + 6]) << 48
-        | wide(bytes[at + 7]) << 56
+    eight(bytes, at)
 }
 
 // The word as the eight bytes from `at` on.

@@ -1,5 +1,4 @@
 -- What is skipped doesn't change the run, and else a turn is a write of the rule, as in `run`.
-use borrow.Author.Needs.{needs}
 use mathlib.Core.Path.{_≡_, refl, sym, ap, _∙_}
 use Prim.Native.Nat.{ℕ, _+_, _-_, _≤_, _<_}
 use native.Mathlib.Omega.{arith}

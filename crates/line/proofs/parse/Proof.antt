@@ -1,5 +1,5 @@
 -- `line::parse` meets its contract: the kind tells the form, and the digits past the first two are decoded.
-use Prim.Native.Nat.{_-_, _≤_}
+use Prim.Native.Nat.{_≤_}
 use native.Mathlib.Omega.{arith}
 use lib.ListN.{length, drop, length-take, length-drop}
 use Rattle.hex.specs.Hex.{spelled}

@@ -1,14 +1,13 @@
 -- Each turn takes four pulses more.
-use lib.Bits.{and-le-r}
-use Prim.Native.Nat.{ℕ, _-_, _/_}
-use Rattle.fast.proofs.Lanes.{gathers-four, parts}
-use Rattle.fast.proofs.Feeds.{feeds-none}
-use Rattle.fast.proofs.Passes.{Gathering, gave}
-use lib.ListN.{drop}
-use lib.Dec.{lit<}
-use native.Mathlib.Omega.{arith}
-use Prim.Native.Nat.{ℕ, _-_}
 use borrow.Author.Needs.{needs}
+use Prim.Native.Nat.{ℕ, _-_, _/_}
+use native.Mathlib.Omega.{arith}
+use lib.Bits.{and-le-r}
+use lib.Dec.{lit<}
+use lib.ListN.{drop}
+use Rattle.fast.proofs.Feeds.{feeds-none}
+use Rattle.fast.proofs.Lanes.{gathers-four, parts}
+use Rattle.fast.proofs.Passes.{Gathering, gave}
 use Rattle.fast.proofs.gather.gather.Statement.{statement}
 use Rattle.fast.proofs.gather.gather.Tie as tie
 
@@ -45,7 +44,7 @@ eight-requires : tie.Need-eight-requires Inv-loop μ-loop
 eight-requires c κs = omega (arith, c .before .loop .inv .place, c .before .loop .inv .room, c .before .loop .inv .fours)
 
 add-if3 : tie.Need-add-if3 Inv-loop μ-loop
-add-if3 c = omega (arith, and-le-r (c .before .eight .result / 16) 281479271743489, and-le-r (c .before .eight .result / 32) 281479271743489)
+add-if3 c = omega (arith, and-le-r (c .before .eight .result / 16) 0x0001000100010001, and-le-r (c .before .eight .result / 32) 0x0001000100010001)
 
 cast-word : tie.Need-cast-word Inv-loop μ-loop
 cast-word c = search needs

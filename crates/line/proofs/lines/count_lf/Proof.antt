@@ -3,17 +3,17 @@ use denote.Ref.{now}
 use Prim.Native.Nat.{_+_, _-_, _≤_}
 use mathlib.Core.Path.{_≡_, ap, _∙_}
 use native.Mathlib.Omega.{arith}
-use Rattle.line.specs.Split.{lfAt}
+use Rattle.line.specs.Split.{lfAt, stride}
 use Rattle.line.proofs.Splitting.{lf-turn}
 use borrow.Author.Needs.{needs}
 use Rattle.line.proofs.lines.count_lf.Statement.{statement}
 use Rattle.line.proofs.lines.count_lf.Tie as tie
 
 abbrev Inv-loop : tie.InvT-loop
-Inv-loop chunk at n₀ j₀ n j = ((j ≤ 64) × (n ≤ j)) × ((n ≡ 0) → lfAt chunk at ≡ lfAt chunk (at + j))
+Inv-loop chunk at n₀ j₀ n j = ((j ≤ stride) × (n ≤ j)) × ((n ≡ 0) → lfAt chunk at ≡ lfAt chunk (at + j))
 
 abbrev μ-loop : tie.MeasureT-loop
-μ-loop chunk at n₀ j₀ n j = 64 - j
+μ-loop chunk at n₀ j₀ n j = stride - j
 
 loop-holds : tie.Need-loop-holds Inv-loop μ-loop
 loop-holds c =
@@ -52,7 +52,7 @@ returns : tie.Need-returns Inv-loop μ-loop
 returns c =
     let a = c .before .loop in
     let s = c .before .before .before .args in
-    let all : s .at + a .j ≡ s .at + 64 = omega (arith, c .loop-test .left, a .inv .0 .0) in
+    let all : s .at + a .j ≡ s .at + stride = omega (arith, c .loop-test .left, a .inv .0 .0) in
     λ e. a .inv .1 e ∙ ap (lfAt (now (s .chunk))) all
 
 pub count-lf-spec : {M : Type 1} → statement M

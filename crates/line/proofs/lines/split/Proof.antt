@@ -1,5 +1,4 @@
 -- `line::lines::split` meets its contract: what comes up to the next LF is copied behind what is held, if all of it has room.
-use Prim.Native.Nat.{_-_}
 use native.Mathlib.Omega.{arith}
 use Rattle.line.proofs.Splitting.{split-long, split-full, split-copied}
 use borrow.Author.Needs.{needs}

@@ -1,9 +1,9 @@
--- Each byte goes above those before it.
-use Rattle.bits.proofs.Eights.{eight-bytes}
-use Rattle.fast.specs.Fast.{eightAt}
+-- `bits::eight` meets its contract: each byte goes above those before it.
 use borrow.Author.Needs.{needs}
-use Rattle.fast.proofs.gather.eight.Statement.{statement}
-use Rattle.fast.proofs.gather.eight.Tie as tie
+use Rattle.bits.specs.Eight.{eightAt}
+use Rattle.bits.proofs.Eights.{eight-bytes}
+use Rattle.bits.proofs.eight.Statement.{statement}
+use Rattle.bits.proofs.eight.Tie as tie
 
 shared-slice-read-wide : tie.Need-shared-slice-read-wide
 shared-slice-read-wide c = search needs
@@ -77,8 +77,15 @@ wide-requires-8 c κs = search needs
 returns : tie.Need-returns
 unfolding eightAt
 returns c =
-    rw (← c .before .before .before .before .before .before .before .before .before .before .before .before .before .before .wide .ensures .0, ← c .before .before .before .before .before .before .before .before .before .before .before .before .wide2 .ensures .0, ← c .before .before .before .before .before .before .before .before .before .before .wide3 .ensures .0, ← c .before .before .before .before .before .before .before .before .wide4 .ensures .0, ← c .before .before .before .before .before .before .wide5 .ensures .0, ← c .before .before .before .before .wide6 .ensures .0, ← c .before .before .wide7 .ensures .0, ← c .wide8 .ensures .0)
-    (eight-bytes _ _ _ _ _ _ _ _ (c .before .before .before .before .before .before .before .before .before .before .before .before .before .before .wide .ensures .1) (c .before .before .before .before .before .before .before .before .before .before .before .before .wide2 .ensures .1) (c .before .before .before .before .before .before .before .before .before .before .wide3 .ensures .1) (c .before .before .before .before .before .before .before .before .wide4 .ensures .1) (c .before .before .before .before .before .before .wide5 .ensures .1) (c .before .before .before .before .wide6 .ensures .1) (c .before .before .wide7 .ensures .1) (c .wide8 .ensures .1))
+    let c7 = c .before .before in
+    let c6 = c7 .before .before in
+    let c5 = c6 .before .before in
+    let c4 = c5 .before .before in
+    let c3 = c4 .before .before in
+    let c2 = c3 .before .before in
+    let c1 = c2 .before .before in
+    rw (← c1 .wide .ensures .0, ← c2 .wide2 .ensures .0, ← c3 .wide3 .ensures .0, ← c4 .wide4 .ensures .0, ← c5 .wide5 .ensures .0, ← c6 .wide6 .ensures .0, ← c7 .wide7 .ensures .0, ← c .wide8 .ensures .0)
+    (eight-bytes _ _ _ _ _ _ _ _ (c1 .wide .ensures .1) (c2 .wide2 .ensures .1) (c3 .wide3 .ensures .1) (c4 .wide4 .ensures .1) (c5 .wide5 .ensures .1) (c6 .wide6 .ensures .1) (c7 .wide7 .ensures .1) (c .wide8 .ensures .1))
 
 pub eight-spec : {M : Type 1} → statement M
 eight-spec =
