@@ -67,7 +67,7 @@ pub fn decode(text: &[u8], bytes: &mut [u8])
 
 // The byte that two digits spell. A digit's low half is its value, to which a letter, which has bit 6, adds 9. Both go in one word, which
 // is then one load: in half the time of a digit by itself.
-fn two_digits(high: u8, low: u8) -> u8
+pub fn two_digits(high: u8, low: u8) -> u8
     requires { ⌜ (nibble high < 16) × (nibble low < 16) ⌝ }
     ensures { λ r. ⌜ r ≡ nibble high * 16 + nibble low ⌝ }
 {

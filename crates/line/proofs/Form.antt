@@ -17,9 +17,6 @@ use Rattle.line.specs.Line.{lineDigits, writes, screen, refused, byKind,
 abbrev pub kindByte : List ℕ → ℕ
 kindByte s = nibble (getD s 0 0) * 16 + nibble (getD s 1 0)
 
-pub kind-is : (s : List ℕ) (a b : ℕ) → a ≡ nibble (getD s 0 0) → b ≡ nibble (getD s 1 0) → kindByte s ≡ a * 16 + b
-kind-is s a b e f = λ j. sym e j * 16 + sym f j
-
 -- ---- what breaks the form
 
 pub too-short : (s : List ℕ) → length s < 2 → meaningOf s ≡ refused

@@ -4,8 +4,8 @@ ghost use mathlib.Core.Path.{_≡_};
 ghost use Rattle.line.specs.Line.{meaningOf};
 ghost use Rattle.line.specs.Calls.{lineTold, lineAnswer, lineBytes, kindTold};
 use hex::decode;
-use hex::digit;
 use hex::spells;
+use hex::two_digits;
 use parts::CAPTURE_BYTES;
 
 pub mod lines;
@@ -53,7 +53,7 @@ fn kind_of(text: &[u8]) -> u8
     if !spells(text) {
         return 0;
     }
-    let kind = digit(text[0]) * 16 + digit(text[1]);
+    let kind = two_digits(text[0], text[1]);
     if kind == 1 {
         return 1;
     }

@@ -9,7 +9,7 @@ use lib.ListN.{length}
 use Rattle.hex.specs.Hex.{spells}
 use Rattle.hex.proofs.Reading.{digit-at}
 use Rattle.line.specs.Calls.{kindTold}
-use Rattle.line.proofs.Form.{kindByte, kind-is, too-short, too-long, not-spelled, some-writes, a-screen, short-screen, other-kind}
+use Rattle.line.proofs.Form.{kindByte, too-short, too-long, not-spelled, some-writes, a-screen, short-screen, other-kind}
 use Rattle.line.proofs.kind_of.Statement.{statement}
 use Rattle.line.proofs.kind_of.Tie as tie
 
@@ -25,8 +25,8 @@ module _ (c : tie.Else3) where
   long = omega arith
 
 -- past both digits: the kind is the line's first byte
-kind : (c : tie.After-digit2) → kindByte (line (c .before .before .before .before)) ≡ c .before .before .digit .result * 16 + c .digit2 .result
-kind c = kind-is (line (c .before .before .before .before)) _ _ (c .before .before .digit .ensures) (c .digit2 .ensures)
+kind : (c : tie.After-two-digits) → kindByte (line (c .before .before .before)) ≡ c .two-digits .result
+kind c = sym (c .two-digits .ensures)
 
 returns : tie.Need-returns
 unfolding kindTold
@@ -43,47 +43,38 @@ returns-3 : tie.Need-returns-3
 unfolding kindTold
 returns-3 c = sym (ap kindTold (not-spelled (c .before .before .before .before .before .args .text .now) (sym (c .before .spells .ensures) ∙ not-true _ (c .if3 .taken))))
 
-shared-slice-read-digit : tie.Need-shared-slice-read-digit
-shared-slice-read-digit c = omega arith
+shared-slice-read-two-digits : tie.Need-shared-slice-read-two-digits
+shared-slice-read-two-digits c = omega arith
 
-digit-requires : tie.Need-digit-requires
-digit-requires c κs = tt
+shared-slice-read-two-digits-2 : tie.Need-shared-slice-read-two-digits-2
+shared-slice-read-two-digits-2 c = omega arith
 
-mul-kind : tie.Need-mul-kind
-mul-kind c = let e = c .before .before in omega (arith, digit-at (line e) (good e) 0 (omega arith))
-
-shared-slice-read-digit-2 : tie.Need-shared-slice-read-digit-2
-shared-slice-read-digit-2 c = omega arith
-
-digit-requires-2 : tie.Need-digit-requires-2
-digit-requires-2 c κs = tt
-
-add-kind : tie.Need-add-kind
-add-kind c = let e = c .before .before .before .before in omega (arith, digit-at (line e) (good e) 0 (omega arith), digit-at (line e) (good e) 1 (omega arith))
+two-digits-requires : tie.Need-two-digits-requires
+two-digits-requires c κs = let e = c .before .before in (digit-at (line e) (good e) 0 (omega arith), digit-at (line e) (good e) 1 (omega arith))
 
 returns-4 : tie.Need-returns-4
 unfolding kindTold
 returns-4 c =
-    let e = c .before .before .before .before .before in
+    let e = c .before .before .before .before in
     sym (ap kindTold (some-writes (line e) (good e) (long e) (kind (c .before) ∙ c .if4 .taken) (omega arith)))
 
 returns-5 : tie.Need-returns-5
 unfolding kindTold
 returns-5 c =
-    let e = c .before .before .before .before .before .before in
+    let e = c .before .before .before .before .before in
     let k = kind (c .before .before) in
     sym (ap kindTold (other-kind (line e) (good e) (long e) (λ z. c .before .if4 .left (sym k ∙ z)) (λ z. c .if5 .taken (sym k ∙ z))))
 
 returns-6 : tie.Need-returns-6
 unfolding kindTold
 returns-6 c =
-    let e = c .before .before .before .before .before .before .before in
+    let e = c .before .before .before .before .before .before in
     sym (ap kindTold (a-screen (line e) (good e) (long e) (kind (c .before .before .before) ∙ c .before .if5 .left) (c .if6 .taken)))
 
 returns-7 : tie.Need-returns-7
 unfolding kindTold
 returns-7 c =
-    let e = c .before .before .before .before .before .before .before in
+    let e = c .before .before .before .before .before .before in
     sym (ap kindTold (short-screen (line e) (good e) (long e) (kind (c .before .before .before) ∙ c .before .if5 .left) (c .if6 .left)))
 
 pub kind-of-spec : {M : Type 1} → statement M
@@ -94,12 +85,9 @@ kind-of-spec =
     returns-2
     spells-requires
     returns-3
-    shared-slice-read-digit
-    digit-requires
-    mul-kind
-    shared-slice-read-digit-2
-    digit-requires-2
-    add-kind
+    shared-slice-read-two-digits
+    shared-slice-read-two-digits-2
+    two-digits-requires
     returns-4
     returns-5
     returns-6
