@@ -1,4 +1,4 @@
-// Screens, border and picture. The row and the picture are asked for with the parts of one lent block, as the unit has them.
+// Screens, border and picture. The row and the picture are drawn of a valid block, which is not checked again.
 use transfer::pending::Landed;
 use transfer::pending::Pending;
 ghost use mathlib.Core.Path.{_≡_};
@@ -7,6 +7,8 @@ ghost use lib.ListN.{length};
 ghost use Rattle.parts.specs.Parts.{blockBytes, systemBytes, filesBytes, captureBytes, tilesBytes, halfBytes, borderMapBytes, borderPalettesBytes, borderBytes};
 ghost use Rattle.transfer.specs.Page.{planeByte, pageBytes, pageOf};
 ghost use Rattle.transfer.specs.Landing.{palettesLanded, filesLanded, tilesLanded, mapLanded};
+ghost use Rattle.layout.specs.Valid.{Valid};
+ghost use Rattle.view.specs.Drawn.{rowDrawn, pictureDrawn};
 
 #[no_mangle]
 pub extern "C" fn probe_plane_byte(screen: &[u8], t: usize, r: usize, p: usize) -> u8
@@ -150,53 +152,18 @@ pub extern "C" fn probe_color_at(block: &[u8], x: usize, y: usize, shade: usize)
 
 #[no_mangle]
 pub extern "C" fn probe_row(block: &[u8], y: usize, out: &mut [u16])
-    requires { ⌜ length (now block) ≡ blockBytes ⌝ }
+    requires { ⌜ Valid (now block) ⌝ }
     requires { ⌜ (y < 224) × (256 ≤ length (now out)) ⌝ }
+    ensures { λ _. ⌜ now (out .exit) ≡ rowDrawn (now (block .entry)) y (now (out .entry)) ⌝ }
 {
-    let mode = block[parts::MASK];
-    let in_force = block[parts::PRESET_ON] == 1;
-    let shown = screen::displayed_screen(
-        &block[parts::LIVE..parts::FROZEN],
-        &block[parts::FROZEN..parts::TILES],
-        mode,
-    );
-    picture::row(
-        &block[parts::PALETTES..parts::MAP],
-        &block[parts::PRESET..parts::PALETTES],
-        in_force,
-        &block[parts::MAP..parts::SYSTEM],
-        shown,
-        mode,
-        &block[parts::TILES..parts::BORDER_MAP],
-        &block[parts::BORDER_MAP..parts::BORDER_PALETTES],
-        &block[parts::BORDER_PALETTES..parts::BLOCK],
-        y,
-        out,
-    );
+    view::drawn::draw_row(block, y, out);
 }
 
 #[no_mangle]
 pub extern "C" fn probe_picture(block: &[u8], out: &mut [u16])
-    requires { ⌜ length (now block) ≡ blockBytes ⌝ }
+    requires { ⌜ Valid (now block) ⌝ }
     requires { ⌜ 57344 ≤ length (now out) ⌝ }
+    ensures { λ _. ⌜ now (out .exit) ≡ pictureDrawn (now (block .entry)) (now (out .entry)) ⌝ }
 {
-    let mode = block[parts::MASK];
-    let in_force = block[parts::PRESET_ON] == 1;
-    let shown = screen::displayed_screen(
-        &block[parts::LIVE..parts::FROZEN],
-        &block[parts::FROZEN..parts::TILES],
-        mode,
-    );
-    picture::picture(
-        &block[parts::PALETTES..parts::MAP],
-        &block[parts::PRESET..parts::PALETTES],
-        in_force,
-        &block[parts::MAP..parts::SYSTEM],
-        shown,
-        mode,
-        &block[parts::TILES..parts::BORDER_MAP],
-        &block[parts::BORDER_MAP..parts::BORDER_PALETTES],
-        &block[parts::BORDER_PALETTES..parts::BLOCK],
-        out,
-    );
+    view::drawn::draw_picture(block, out);
 }
