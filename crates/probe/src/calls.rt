@@ -1,12 +1,15 @@
 // The public calls that change a block, and the check of a saved one; their answers as numbers. A refusal n is 0x100 + n.
-use transfer::pending::Landed;
+use super::drawing::landed_kind;
 use unit::Shown;
 use unit::Written;
 
 // 0 for nothing, else the packets of the command that is complete.
 #[no_mangle]
 pub extern "C" fn probe_write_joypad(block: &mut [u8], value: u8, command: &mut [u8]) -> u32 {
-    let told = unit::write_joypad(block, value, command);
+    written_number(unit::write_joypad(block, value, command))
+}
+
+fn written_number(told: Written) -> u32 {
     match told {
         Written::Refused(n) => 256 + (n as u32),
         Written::Nothing => 0,
@@ -15,19 +18,15 @@ pub extern "C" fn probe_write_joypad(block: &mut [u8], value: u8, command: &mut 
 }
 
 // 255 if nothing landed, else the number of the kind that did.
-fn landed_number(landed: Landed) -> u32 {
-    match landed {
-        Landed::Nothing => 255,
-        Landed::Page(transfer) => transfer.number() as u32,
-    }
-}
-
 #[no_mangle]
 pub extern "C" fn probe_update_screen(block: &mut [u8], screen: &[u8]) -> u32 {
-    let told = unit::update_screen(block, screen);
+    shown_number(unit::update_screen(block, screen))
+}
+
+fn shown_number(told: Shown) -> u32 {
     match told {
         Shown::Refused(n) => 256 + (n as u32),
-        Shown::Took(landed) => landed_number(landed),
+        Shown::Took(landed) => landed_kind(landed) as u32,
     }
 }
 

@@ -1,4 +1,4 @@
-// Screens, border and picture. The row and the picture are asked for with the parts of one lent block, as the unit has them.
+// Screens, border and picture. The row and the picture are drawn of a valid block, which is not checked again.
 use transfer::pending::Landed;
 use transfer::pending::Pending;
 ghost use mathlib.Core.Path.{_≡_};
@@ -8,6 +8,8 @@ ghost use Rattle.parts.specs.Parts.{blockBytes, systemBytes, filesBytes, captur
 ghost use Rattle.layout.specs.Valid.{Valid};
 ghost use Rattle.transfer.specs.Page.{planeByte, pageBytes, pageOf};
 ghost use Rattle.transfer.specs.Landing.{palettesLanded, filesLanded, tilesLanded, mapLanded};
+ghost use Rattle.layout.specs.Valid.{Valid};
+ghost use Rattle.view.specs.Drawn.{rowDrawn, pictureDrawn};
 
 #[no_mangle]
 pub extern "C" fn probe_plane_byte(screen: &[u8], t: usize, r: usize, p: usize) -> u8
@@ -153,6 +155,7 @@ pub extern "C" fn probe_color_at(block: &[u8], x: usize, y: usize, shade: usize)
 pub extern "C" fn probe_row(block: &[u8], y: usize, out: &mut [u16])
     requires { ⌜ Valid (now block) ⌝ }
     requires { ⌜ (y < 224) × (256 ≤ length (now out)) ⌝ }
+    ensures { λ _. ⌜ now (out .exit) ≡ rowDrawn (now (block .entry)) y (now (out .entry)) ⌝ }
 {
     view::drawn::draw_row(block, y, out);
 }
@@ -161,6 +164,7 @@ pub extern "C" fn probe_row(block: &[u8], y: usize, out: &mut [u16])
 pub extern "C" fn probe_picture(block: &[u8], out: &mut [u16])
     requires { ⌜ Valid (now block) ⌝ }
     requires { ⌜ 57344 ≤ length (now out) ⌝ }
+    ensures { λ _. ⌜ now (out .exit) ≡ pictureDrawn (now (block .entry)) (now (out .entry)) ⌝ }
 {
     view::drawn::draw_picture(block, out);
 }

@@ -1,9 +1,8 @@
-// The parts of the port, exported one by one for the runs against the Rust (tools/oracle). Nothing else uses them.
+// The parts of the port, exported one by one for the runs against the Rust (tools/oracle) and for times beside it (tools/bench).
 // Each wrapper only hands its arguments on, so each says no more than what its own callee ensures.
 mod calls;
 mod drawing;
 mod effects;
-mod jobs;
 mod leaves;
 mod logs;
 mod packets;

@@ -10,8 +10,8 @@ use gb::sgb::post_boot as door;
 use std::hint::black_box;
 
 unsafe extern "C" {
+    fn jobs_show(block: *mut u8, len: usize, screen: *const u8, screen_len: usize) -> u8;
     fn probe_page(out: *mut u8, out_len: usize, screen: *const u8, len: usize);
-    fn probe_show(block: *mut u8, len: usize, screen: *const u8, screen_len: usize) -> u8;
     fn probe_update_screen(block: *mut u8, len: usize, screen: *const u8, screen_len: usize)
     -> u32;
 }
@@ -110,7 +110,7 @@ fn show(by: By, block: &mut [u8], packed: &[u8]) -> u32 {
     let (b, s) = (block.as_mut_ptr(), packed.as_ptr());
     unsafe {
         match by {
-            By::Log => probe_show(b, block.len(), s, packed.len()).into(),
+            By::Log => jobs_show(b, block.len(), s, packed.len()).into(),
             By::Call => probe_update_screen(b, block.len(), s, packed.len()),
         }
     }

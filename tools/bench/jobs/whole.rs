@@ -1,12 +1,12 @@
 //! The whole job: the sample log to the text that a program prints of it, all in memory. The port does what the program does but for the
-//! calls of the system (crates/probe, `jobs`); the Rust is driven by tools/oracle/driver.rs.
+//! calls of the system (crates/jobs); the Rust is driven by tools/oracle/driver.rs.
 
 use crate::{Job, driver, each};
 use std::hint::black_box;
 use std::io::{self, BufRead, Write};
 
 unsafe extern "C" {
-    fn probe_replay(
+    fn jobs_replay(
         input: *const u8,
         input_len: usize,
         block: *mut u8,
@@ -20,7 +20,7 @@ unsafe extern "C" {
         text: *mut u8,
         text_len: usize,
     ) -> usize;
-    fn probe_plate(
+    fn jobs_plate(
         input: *const u8,
         input_len: usize,
         block: *mut u8,
@@ -82,9 +82,9 @@ impl Desk {
     fn run(&mut self, log: &[u8], plate: bool) -> &[u8] {
         let size = unsafe {
             if plate {
-                lent!(probe_plate, log, self, block line bytes command words text)
+                lent!(jobs_plate, log, self, block line bytes command words text)
             } else {
-                lent!(probe_replay, log, self, block line bytes command text)
+                lent!(jobs_replay, log, self, block line bytes command text)
             }
         };
         &self.text[..size]

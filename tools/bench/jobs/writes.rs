@@ -12,7 +12,7 @@ use crate::{Job, each};
 use std::rc::Rc;
 
 unsafe extern "C" {
-    fn probe_play_valid(
+    fn jobs_play(
         block: *mut u8,
         len: usize,
         writes: *const u8,
@@ -65,7 +65,7 @@ fn play(block: &mut [u8], writes: &[u8]) -> usize {
         while at < line.len() {
             let rest = &line[at..];
             let told = unsafe {
-                probe_play_valid(
+                jobs_play(
                     block.as_mut_ptr(),
                     block.len(),
                     rest.as_ptr(),

@@ -4,8 +4,8 @@ use mathlib.Core.Bool.{false≢true}
 use native.Mathlib.Omega.{arith}
 use borrow.Author.Needs.{needs}
 use borrow.Author.Tests.{ltb-true}
-use Rattle.probe.proofs.jobs.goes_on.Statement.{statement}
-use Rattle.probe.proofs.jobs.goes_on.Tie as tie
+use Rattle.jobs.proofs.goes_on.Statement.{statement}
+use Rattle.jobs.proofs.goes_on.Tie as tie
 
 returns : tie.Need-returns
 returns c = λ e. absurd (false≢true e)

@@ -1,8 +1,8 @@
 -- The sizes are those that were tested.
 use borrow.Author.Tests.{not-false}
 use borrow.Author.Needs.{needs}
-use Rattle.probe.proofs.jobs.probe_plate.Statement.{statement}
-use Rattle.probe.proofs.jobs.probe_plate.Tie as tie
+use Rattle.jobs.proofs.jobs_plate.Statement.{statement}
+use Rattle.jobs.proofs.jobs_plate.Tie as tie
 
 are-sized-requires : tie.Need-are-sized-requires
 are-sized-requires c κs = search needs
@@ -45,8 +45,8 @@ same-length-6 c = search needs
 returns-4 : tie.Need-returns-4
 returns-4 c = search needs
 
-pub probe-plate-spec : {M : Type 1} → statement M
-probe-plate-spec =
+pub jobs-plate-spec : {M : Type 1} → statement M
+jobs-plate-spec =
     tie.close
     (tie.spec
     are-sized-requires

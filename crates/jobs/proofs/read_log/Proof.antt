@@ -9,9 +9,9 @@ use Rattle.log.specs.Steps.{desk, left}
 use Rattle.reader.specs.Fed.{outBytes}
 use Rattle.reader.proofs.Feeding.{boot-fit}
 use Rattle.log.specs.declared.Reading.{Reading}
-use Rattle.probe.proofs.Chunks.{Stands, part-is, stands-on, ends-within, left-falls}
-use Rattle.probe.proofs.jobs.read_log.Statement.{statement}
-use Rattle.probe.proofs.jobs.read_log.Tie as tie
+use Rattle.jobs.proofs.Chunks.{Stands, part-is, stands-on, ends-within, left-falls}
+use Rattle.jobs.proofs.read_log.Statement.{statement}
+use Rattle.jobs.proofs.read_log.Tie as tie
 
 abbrev Inv-loop : tie.InvT-loop
 Inv-loop input block₀ line₀ bytes₀ command₀ text₀ keep reading₀ at₀ n₀ block line bytes command text reading at n =

@@ -2,8 +2,8 @@
 use native.Mathlib.Omega.{arith}
 use borrow.Author.Tests.{not-false}
 use borrow.Author.Needs.{needs}
-use Rattle.probe.proofs.jobs.probe_replay.Statement.{statement}
-use Rattle.probe.proofs.jobs.probe_replay.Tie as tie
+use Rattle.jobs.proofs.jobs_replay.Statement.{statement}
+use Rattle.jobs.proofs.jobs_replay.Tie as tie
 
 are-sized-requires : tie.Need-are-sized-requires
 are-sized-requires c κs = search needs
@@ -73,8 +73,8 @@ same-length-10 c = search needs
 returns-3 : tie.Need-returns-3
 returns-3 c = search needs
 
-pub probe-replay-spec : {M : Type 1} → statement M
-probe-replay-spec =
+pub jobs-replay-spec : {M : Type 1} → statement M
+jobs-replay-spec =
     tie.close
     (tie.spec
     are-sized-requires

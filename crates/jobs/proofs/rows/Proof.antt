@@ -4,8 +4,8 @@ use Prim.Native.Nat.{_-_, _≤_}
 use native.Mathlib.Omega.{arith}
 use borrow.Author.Needs.{needs}
 use lib.ListN.{length}
-use Rattle.probe.proofs.jobs.rows.Statement.{statement}
-use Rattle.probe.proofs.jobs.rows.Tie as tie
+use Rattle.jobs.proofs.rows.Statement.{statement}
+use Rattle.jobs.proofs.rows.Tie as tie
 
 abbrev Inv-loop : tie.InvT-loop
 Inv-loop block spreads border game words₀ text₀ y₀ words text y = (y ≤ 224) × ((length words ≡ 256) × (length text ≡ length text₀))

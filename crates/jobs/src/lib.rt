@@ -1,5 +1,5 @@
-// Work as the programs do it, over lent memory, for times (tools/bench): a screen and writes on a valid block that is not checked again,
-// and a whole log as `replay` and `plate` take it, with their text in the place of what they write. The log's last line has its LF.
+// Work as the programs do it, over lent memory, exported for times (tools/bench): a screen and writes on a valid block that is not checked
+// again, and a whole log as `replay` and `plate` take it, with their text in the place of what they write. The log's last line has its LF.
 ghost use mathlib.Core.Path.{_≡_};
 ghost use Prim.Native.Nat.{_*_, _≤_, _<_};
 ghost use lib.ListN.{length};
@@ -15,6 +15,7 @@ ghost use Rattle.reader.specs.Fed.{Sized, chunkBytes, outBytes};
 use log::Reading;
 use reader::CHUNK_BYTES;
 use reader::OUT_BYTES;
+use transfer::pending::Landed;
 
 // A row of the picture as text, and all of them.
 const ROW: usize = 1025;
@@ -23,15 +24,22 @@ const PLATE: usize = 224 * ROW;
 
 // The kind that landed, or 255.
 #[no_mangle]
-pub extern "C" fn probe_show(block: &mut [u8], screen: &[u8]) -> u8
+pub extern "C" fn jobs_show(block: &mut [u8], screen: &[u8]) -> u8
     requires { ⌜ Valid (now block) × (length (now screen) ≡ captureBytes) ⌝ }
 {
-    super::drawing::landed_kind(show::show(block, screen))
+    landed_kind(show::show(block, screen))
+}
+
+fn landed_kind(landed: Landed) -> u8 {
+    match landed {
+        Landed::Nothing => 255,
+        Landed::Page(transfer) => transfer.number(),
+    }
 }
 
 // Up to the next command: how many writes it took, and in the high byte the packets of the command.
 #[no_mangle]
-pub extern "C" fn probe_play_valid(block: &mut [u8], writes: &[u8], command: &mut [u8]) -> u64
+pub extern "C" fn jobs_play(block: &mut [u8], writes: &[u8], command: &mut [u8]) -> u64
     requires { ⌜ Valid (now block) × (storeBytes ≤ length (now command)) ⌝ }
 {
     let p = play::play(block, writes, command);
@@ -40,7 +48,7 @@ pub extern "C" fn probe_play_valid(block: &mut [u8], writes: &[u8], command: &mu
 
 // What `replay` prints. Answers its length, or 0 if a lent part has not the length that it must have or the text has no room.
 #[no_mangle]
-pub extern "C" fn probe_replay(
+pub extern "C" fn jobs_replay(
     input: &[u8],
     block: &mut [u8],
     line: &mut [u8],
@@ -66,7 +74,7 @@ pub extern "C" fn probe_replay(
 
 // What `plate` prints, if no line is refused; a row goes by way of the lent words. The answer is as above.
 #[no_mangle]
-pub extern "C" fn probe_plate(
+pub extern "C" fn jobs_plate(
     input: &[u8],
     block: &mut [u8],
     line: &mut [u8],

@@ -3,8 +3,8 @@ use mathlib.Core.Path.{_≡_}
 use mathlib.Core.Bool.{false≢true}
 use native.Mathlib.Omega.{arith}
 use borrow.Author.Tests.{eqb-true}
-use Rattle.probe.proofs.jobs.are_sized.Statement.{statement}
-use Rattle.probe.proofs.jobs.are_sized.Tie as tie
+use Rattle.jobs.proofs.are_sized.Statement.{statement}
+use Rattle.jobs.proofs.are_sized.Tie as tie
 
 returns : tie.Need-returns
 returns c = λ e. absurd (false≢true e)
