@@ -1,10 +1,10 @@
 -- A turn takes a chunk by a fill; what is left of the input falls with it.
 use denote.Ref.{now}
-use mathlib.Core.Path.{_≡_, refl, sym, ap, _∙_}
-use Prim.Native.Nat.{_+_, _-_, _*_, _≤_, _<_}
+use mathlib.Core.Path.{_≡_, refl, ap, _∙_}
+use Prim.Native.Nat.{_+_, _-_, _≤_, _<_}
 use native.Mathlib.Omega.{arith}
 use borrow.Author.Needs.{needs}
-use lib.ListN.{length, take, drop, length-take, length-drop}
+use lib.ListN.{length, take, drop}
 use Rattle.log.specs.Steps.{desk, left}
 use Rattle.reader.specs.Fed.{outBytes}
 use Rattle.reader.proofs.Feeding.{boot-fit}
