@@ -7,4 +7,5 @@ mod leaves;
 mod logs;
 mod packets;
 mod playing;
+mod rounds;
 mod views;

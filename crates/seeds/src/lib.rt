@@ -1,6 +1,6 @@
 // What the stored rounds send and show (crates/stored), made from seeds: commands, faults, idle writes (`writes`) and `screens`.
 // Chance goes by one step of xorshift: the same numbers on every machine, and nothing that could overflow. tools/oracle/stored.rs
-// makes the same for the Rust, so a change here is a change there.
+// runs the Rust on the same, by way of the crate `probe`: a change here asks for a new list.
 ghost use Prim.Native.Nat.{_<_};
 
 pub mod screens;
