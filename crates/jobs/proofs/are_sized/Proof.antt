@@ -1,5 +1,4 @@
 -- Each test that was passed tells one size.
-use mathlib.Core.Path.{_≡_}
 use mathlib.Core.Bool.{false≢true}
 use native.Mathlib.Omega.{arith}
 use borrow.Author.Tests.{eqb-true}
