@@ -46,35 +46,11 @@ pub extern "C" fn jobs_play(block: &mut [u8], writes: &[u8], command: &mut [u8])
     p.at as u64 | (p.packets as u64) << 56
 }
 
-// What `replay` prints. Answers its length, or 0 if a lent part has not the length that it must have or the text has no room.
+// What `replay` prints of a log, or what `plate` does where that is 1 and no line is refused; its rows go by way of the lent words. Answers
+// the text's length, or 0 if a lent part has not the length that it must have or the text has no room.
 #[no_mangle]
-pub extern "C" fn jobs_replay(
-    input: &[u8],
-    block: &mut [u8],
-    line: &mut [u8],
-    bytes: &mut [u8],
-    command: &mut [u8],
-    text: &mut [u8],
-) -> usize {
-    if !are_sized(
-        input.len(),
-        block.len(),
-        line.len(),
-        bytes.len(),
-        command.len(),
-    ) {
-        return 0;
-    }
-    let n = read_log(input, block, line, bytes, command, text, true);
-    if text.len() - n < OUT_BYTES {
-        return 0;
-    }
-    n + log::head_line(block, &mut text[n..n + OUT_BYTES])
-}
-
-// What `plate` prints, if no line is refused; a row goes by way of the lent words. The answer is as above.
-#[no_mangle]
-pub extern "C" fn jobs_plate(
+pub extern "C" fn jobs_print(
+    plate: u8,
     input: &[u8],
     block: &mut [u8],
     line: &mut [u8],
@@ -98,9 +74,8 @@ pub extern "C" fn jobs_plate(
     if text.len() < PLATE {
         return 0;
     }
-    read_log(input, block, line, bytes, command, text, false);
-    picture(block, words, text);
-    PLATE
+    let n = read_log(input, block, line, bytes, command, text, plate != 1);
+    finish(plate, block, words, text, n)
 }
 
 fn are_sized(input: usize, block: usize, line: usize, bytes: usize, command: usize) -> bool
@@ -133,7 +108,7 @@ fn read_log(
     keep: bool,
 ) -> usize
     requires { ⌜ Sized (desk (now block) (now line) (now bytes) (now command)) × (length (now input) < 4294967296) ⌝ }
-    ensures { λ r. ⌜ Valid (now (block .exit)) × ((r ≤ length (now (text .entry))) × (length (now (text .entry)) < 18446744073709551616)) ⌝ }
+    ensures { λ r. ⌜ Valid (now (block .exit)) × (r ≤ length (now (text .entry))) ⌝ }
 {
     fresh::post_boot(block);
     let mut reading = log::begin();
@@ -185,6 +160,21 @@ fn chunk_size(rest: usize) -> usize
     } else {
         CHUNK_BYTES
     }
+}
+
+// Of the plate its rows, else the closing line behind the n bytes of text that there are.
+fn finish(plate: u8, block: &[u8], words: &mut [u16], text: &mut [u8], n: usize) -> usize
+    requires { ⌜ Valid (now block) × (n ≤ length (now text)) ⌝ }
+    requires { ⌜ (length (now words) ≡ 256) × (229600 ≤ length (now text)) ⌝ }
+{
+    if plate == 1 {
+        picture(block, words, text);
+        return PLATE;
+    }
+    if text.len() - n < OUT_BYTES {
+        return 0;
+    }
+    n + log::head_line(block, &mut text[n..n + OUT_BYTES])
 }
 
 fn picture(block: &[u8], words: &mut [u16], text: &mut [u8])

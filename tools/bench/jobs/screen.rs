@@ -41,39 +41,20 @@ pub fn jobs() -> Vec<Job> {
         frozen: true,
         ..due(0, 0)
     };
+    use By::{Call, Log};
     vec![
         page(),
-        job("screen, PAL_TRN lands", 0.3, By::Log, due(1, 0)),
-        job("screen, ATTR_TRN lands", 0.3, By::Log, due(1, 1)),
-        job("screen, CHR_TRN lands, lower", 0.3, By::Log, due(1, 2)),
-        job("screen, CHR_TRN lands, upper", 0.3, By::Log, due(1, 3)),
-        job("screen, PCT_TRN lands", 0.3, By::Log, due(1, 4)),
-        job(
-            "screen, PCT_TRN lands, public call",
-            0.3,
-            By::Call,
-            due(1, 4),
-        ),
-        job("screen, none pending", 0.4, By::Log, due(0, 0)),
-        job("screen, countdown 3 to 2", 0.4, By::Log, due(3, 0)),
-        job(
-            "screen, none pending, public call",
-            0.4,
-            By::Call,
-            due(0, 0),
-        ),
-        job(
-            "screen, none pending, frozen, public call",
-            0.4,
-            By::Call,
-            frozen,
-        ),
-        job(
-            "screen, countdown 3 to 2, public call",
-            0.4,
-            By::Call,
-            due(3, 0),
-        ),
+        job("screen, PAL_TRN lands", Log, due(1, 0)),
+        job("screen, ATTR_TRN lands", Log, due(1, 1)),
+        job("screen, CHR_TRN lands, lower", Log, due(1, 2)),
+        job("screen, CHR_TRN lands, upper", Log, due(1, 3)),
+        job("screen, PCT_TRN lands", Log, due(1, 4)),
+        job("screen, PCT_TRN lands, public call", Call, due(1, 4)),
+        job("screen, none pending", Log, due(0, 0)),
+        job("screen, countdown 3 to 2", Log, due(3, 0)),
+        job("screen, none pending, public call", Call, due(0, 0)),
+        job("screen, none pending, frozen, public call", Call, frozen),
+        job("screen, countdown 3 to 2, public call", Call, due(3, 0)),
     ]
 }
 
@@ -126,7 +107,7 @@ fn unit(due: Due) -> Vec<u8> {
     block
 }
 
-fn job(name: &'static str, limit: f64, by: By, due: Due) -> Job {
+fn job(name: &'static str, by: By, due: Due) -> Job {
     let packed = noise();
     let mut block = unit(due);
     let mut rust = Oracle::load(&block);
@@ -135,7 +116,8 @@ fn job(name: &'static str, limit: f64, by: By, due: Due) -> Job {
     difference(&block, &rust.save()).unwrap();
     Job {
         name,
-        limit,
+        // at most what is asked of a landing, or of a screen that only becomes the live one
+        limit: if due.countdown == 1 { 0.3 } else { 0.4 },
         port: Box::new(move || {
             each(400, |_| {
                 (block[COUNTDOWN], block[KIND]) = (due.countdown, due.kind);

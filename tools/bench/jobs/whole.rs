@@ -6,21 +6,9 @@ use std::hint::black_box;
 use std::io::{self, BufRead, Write};
 
 unsafe extern "C" {
-    fn jobs_replay(
-        input: *const u8,
-        input_len: usize,
-        block: *mut u8,
-        block_len: usize,
-        line: *mut u8,
-        line_len: usize,
-        bytes: *mut u8,
-        bytes_len: usize,
-        command: *mut u8,
-        command_len: usize,
-        text: *mut u8,
-        text_len: usize,
-    ) -> usize;
-    fn jobs_plate(
+    // a slice is a pointer and a length
+    fn jobs_print(
+        plate: u8,
         input: *const u8,
         input_len: usize,
         block: *mut u8,
@@ -45,14 +33,19 @@ type Driver = fn(&mut dyn BufRead, &mut dyn Write) -> io::Result<()>;
 pub fn jobs() -> Vec<Job> {
     vec![
         job("whole job, sample log to plate", 0.4, true, driver::plate),
-        job("whole job, sample log to replay", 1.0, false, driver::replay),
+        job(
+            "whole job, sample log to replay",
+            1.0,
+            false,
+            driver::replay,
+        ),
     ]
 }
 
 /// A call on the log and on parts of the desk, each lent as a pointer and a length.
 macro_rules! lent {
-    ($call:ident, $log:ident, $desk:ident, $($part:ident)*) => {
-        $call($log.as_ptr(), $log.len(), $($desk.$part.as_mut_ptr(), $desk.$part.len()),*)
+    ($call:ident, $plate:ident, $log:ident, $desk:ident, $($part:ident)*) => {
+        $call($plate.into(), $log.as_ptr(), $log.len(), $($desk.$part.as_mut_ptr(), $desk.$part.len()),*)
     };
 }
 
@@ -80,13 +73,8 @@ impl Desk {
 
     /// The text of the plate or of the replay.
     fn run(&mut self, log: &[u8], plate: bool) -> &[u8] {
-        let size = unsafe {
-            if plate {
-                lent!(jobs_plate, log, self, block line bytes command words text)
-            } else {
-                lent!(jobs_replay, log, self, block line bytes command text)
-            }
-        };
+        let size =
+            unsafe { lent!(jobs_print, plate, log, self, block line bytes command words text) };
         &self.text[..size]
     }
 }

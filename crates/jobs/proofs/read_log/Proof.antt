@@ -1,7 +1,8 @@
 -- A turn takes a chunk by a fill; what is left of the input falls with it.
 use denote.Ref.{now}
 use mathlib.Core.Path.{_≡_, refl, ap, _∙_}
-use Prim.Native.Nat.{_+_, _-_, _≤_, _<_}
+use Prim.Native.Nat.{ℕ, _+_, _-_, _≤_, _<_}
+use mathlib.Core.List.{List}
 use native.Mathlib.Omega.{arith}
 use borrow.Author.Needs.{needs}
 use lib.ListN.{length, take, drop}
@@ -20,6 +21,41 @@ Inv-loop input block₀ line₀ bytes₀ command₀ text₀ keep reading₀ at�
 
 abbrev μ-loop : tie.MeasureT-loop
 μ-loop input block₀ line₀ bytes₀ command₀ text₀ keep reading₀ at₀ n₀ block line bytes command text reading at n = left reading (length input) at
+
+-- ---- before a fill
+
+module _ (c : tie.After-fill-arg6 Inv-loop μ-loop) where
+  abbrev input : List ℕ
+  input = now (c .before .before .before .before .before .before .before .before .before .before .before .before .before .before .before .before .before .before .before .before .before .args .input)
+
+  abbrev text : List ℕ
+  text = c .before .before .before .before .before .before .before .before .before .loop .text
+
+  abbrev at : ℕ
+  at = c .before .before .before .before .before .before .before .before .before .loop .at
+
+  abbrev n : ℕ
+  n = c .before .before .before .before .before .before .before .before .before .loop .n
+
+  abbrev k : ℕ
+  k = c .before .before .before .before .before .before .chunk-size .result
+
+  goes : (outBytes ≤ length text - n) × (0 < left (c .before .before .before .before .before .before .before .before .before .loop .reading) (length input) at)
+  goes = c .before .before .before .before .before .before .before .before .goes-on .ensures (c .before .before .before .before .before .before .before .if1 .taken)
+
+  room : n + outBytes ≤ length text
+  room = omega (arith, goes .0, c .before .before .before .before .before .before .before .before .before .loop .inv .0 .roomy, c .before .before .before .before .before .before .before .before .before .loop .inv .1 .1 .1 .1 .1 .1)
+
+  long : at + k ≤ length input
+  long = omega (arith, c .before .before .before .before .before .before .chunk-size .ensures .0, c .before .before .before .before .before .before .before .before .before .loop .inv .0 .within)
+
+  chunk-long : length (take (at + k - at) (drop at input)) ≡ k
+  chunk-long = part-is input at k long
+
+  out-long : length (take (n + outBytes - n) (drop n text)) ≡ outBytes
+  out-long = part-is text n outBytes room
+
+-- ---- the needs
 
 post-boot-requires : tie.Need-post-boot-requires Inv-loop μ-loop
 post-boot-requires c κs = search needs
@@ -78,64 +114,38 @@ part-fill-end-2 c = omega (arith, (c .before .before .before .before .before .be
 
 fill-requires : tie.Need-fill-requires Inv-loop μ-loop
 fill-requires c κs =
-    let start = c .before .before .before .before .before .before .before .before .before .before .before .before .before .before .before .before .before .before .before .before .before in
-    let a = c .before .before .before .before .before .before .before .before .before .loop in
-    let k = c .before .before .before .before .before .before .chunk-size .result in
-    let room : a .n + outBytes ≤ length (a .text) = omega (arith, (c .before .before .before .before .before .before .before .before .goes-on .ensures (c .before .before .before .before .before .before .before .if1 .taken)) .0, a .inv .0 .roomy, a .inv .1 .1 .1 .1 .1 .1) in
-    let long : a .at + k ≤ length (now (start .args .input)) = omega (arith, c .before .before .before .before .before .before .chunk-size .ensures .0, a .inv .0 .within) in
-    let is : length (take (a .at + k - a .at) (drop (a .at) (now (start .args .input)))) ≡ k = part-is (now (start .args .input)) (a .at) k long in
-    let out : length (take (a .n + outBytes - a .n) (drop (a .n) (a .text))) ≡ outBytes = part-is (a .text) (a .n) outBytes room in
-    (a .inv .0 .fit, ((omega (arith, is, c .before .before .before .before .before .before .chunk-size .ensures .1 .0, a .inv .0 .counted, a .inv .0 .within, start .pre .1), (omega arith, omega (arith, is, c .before .before .before .before .before .before .chunk-size .ensures .1 .0))), omega (arith, out)))
+    let i = c .before .before .before .before .before .before .before .before .before .loop .inv .0 in
+    let m = c .before .before .before .before .before .before .chunk-size .ensures .1 .0 in
+    (i .fit, ((omega (arith, chunk-long c, m, i .counted, i .within, c .before .before .before .before .before .before .before .before .before .before .before .before .before .before .before .before .before .before .before .before .before .pre .1), (omega arith, omega (arith, chunk-long c, m))), omega (arith, out-long c)))
 
 add-at : tie.Need-add-at Inv-loop μ-loop
 add-at c =
-    let start = c .before .before .before .before .before .before .before .before .before .before .before .before .before .before .before .before .before .before .before .before .before .before .before .before .before .before .before .before .before .before .before .before .before .before in
+    let b = c .before .before .before .before .before .before .before .before .before .before .before .before .before in
     let a = c .before .before .before .before .before .before .before .before .before .before .before .before .before .before .before .before .before .before .before .before .before .before .loop in
-    let k = c .before .before .before .before .before .before .before .before .before .before .before .before .before .before .before .before .before .before .before .chunk-size .result in
-    let room : a .n + outBytes ≤ length (a .text) = omega (arith, (c .before .before .before .before .before .before .before .before .before .before .before .before .before .before .before .before .before .before .before .before .before .goes-on .ensures (c .before .before .before .before .before .before .before .before .before .before .before .before .before .before .before .before .before .before .before .before .if1 .taken)) .0, a .inv .0 .roomy, a .inv .1 .1 .1 .1 .1 .1) in
-    let long : a .at + k ≤ length (now (start .args .input)) = omega (arith, c .before .before .before .before .before .before .before .before .before .before .before .before .before .before .before .before .before .before .before .chunk-size .ensures .0, a .inv .0 .within) in
-    let is : length (take (a .at + k - a .at) (drop (a .at) (now (start .args .input)))) ≡ k = part-is (now (start .args .input)) (a .at) k long in
-    let out : length (take (a .n + outBytes - a .n) (drop (a .n) (a .text))) ≡ outBytes = part-is (a .text) (a .n) outBytes room in
-    let w = ends-within (length (now (start .args .input))) (length (now (start .args .text))) (a .reading) (desk (a .block) (a .line) (a .bytes) (a .command)) (a .at) (a .n) _ _ (c .before .before .before .before .before .before .before .before .before .before .before .before .fill .result) _ _ (a .inv .0) (c .before .before .before .before .before .before .before .before .before .before .before .before .fill .ensures) (omega (arith, is, long)) in
-    omega (arith, w, start .pre .1)
+    let w = ends-within (length (input b)) _ (a .reading) (desk (a .block) (a .line) (a .bytes) (a .command)) (a .at) (a .n) _ _ (c .before .before .before .before .before .before .before .before .before .before .before .before .fill .result) _ _ (a .inv .0) (c .before .before .before .before .before .before .before .before .before .before .before .before .fill .ensures) (omega (arith, chunk-long b, long b)) in
+    omega (arith, w, c .before .before .before .before .before .before .before .before .before .before .before .before .before .before .before .before .before .before .before .before .before .before .before .before .before .before .before .before .before .before .before .before .before .before .pre .1)
 
 kept-requires : tie.Need-kept-requires Inv-loop μ-loop
 kept-requires c κs = tt
 
 add-n : tie.Need-add-n Inv-loop μ-loop
 add-n c =
-    let start = c .before .before .before .before .before .before .before .before .before .before .before .before .before .before .before .before .before .before .before .before .before .before .before .before .before .before .before .before .before .before .before .before .before .before .before in
-    let a = c .before .before .before .before .before .before .before .before .before .before .before .before .before .before .before .before .before .before .before .before .before .before .before .loop in
-    let k = c .before .before .before .before .before .before .before .before .before .before .before .before .before .before .before .before .before .before .before .before .chunk-size .result in
-    let room : a .n + outBytes ≤ length (a .text) = omega (arith, (c .before .before .before .before .before .before .before .before .before .before .before .before .before .before .before .before .before .before .before .before .before .before .goes-on .ensures (c .before .before .before .before .before .before .before .before .before .before .before .before .before .before .before .before .before .before .before .before .before .if1 .taken)) .0, a .inv .0 .roomy, a .inv .1 .1 .1 .1 .1 .1) in
-    let long : a .at + k ≤ length (now (start .args .input)) = omega (arith, c .before .before .before .before .before .before .before .before .before .before .before .before .before .before .before .before .before .before .before .before .chunk-size .ensures .0, a .inv .0 .within) in
-    let is : length (take (a .at + k - a .at) (drop (a .at) (now (start .args .input)))) ≡ k = part-is (now (start .args .input)) (a .at) k long in
-    let out : length (take (a .n + outBytes - a .n) (drop (a .n) (a .text))) ≡ outBytes = part-is (a .text) (a .n) outBytes room in
-    omega (arith, c .kept .ensures, c .before .before .before .before .before .before .before .before .before .before .before .before .before .fill .ensures .fits, out, room, a .inv .1 .0, a .inv .1 .1 .1 .1 .1 .1)
+    let b = c .before .before .before .before .before .before .before .before .before .before .before .before .before .before in
+    omega (arith, c .kept .ensures, c .before .before .before .before .before .before .before .before .before .before .before .before .before .fill .ensures .fits, out-long b, room b, c .before .before .before .before .before .before .before .before .before .before .before .before .before .before .before .before .before .before .before .before .before .before .before .loop .inv .1 .0, c .before .before .before .before .before .before .before .before .before .before .before .before .before .before .before .before .before .before .before .before .before .before .before .loop .inv .1 .1 .1 .1 .1 .1)
 
 loop-less : tie.Need-loop-less Inv-loop μ-loop
 loop-less c =
-    let start = c .before .before .before .before .before .before .before .before .before .before .before .before .before .before .before .before .before .before .before .before .before .before .before .before .before .before .before .before .before .before .before .before .before .before .before in
+    let b = c .before .before .before .before .before .before .before .before .before .before .before .before .before .before in
     let a = c .before .before .before .before .before .before .before .before .before .before .before .before .before .before .before .before .before .before .before .before .before .before .before .loop in
-    let k = c .before .before .before .before .before .before .before .before .before .before .before .before .before .before .before .before .before .before .before .before .chunk-size .result in
-    let room : a .n + outBytes ≤ length (a .text) = omega (arith, (c .before .before .before .before .before .before .before .before .before .before .before .before .before .before .before .before .before .before .before .before .before .before .goes-on .ensures (c .before .before .before .before .before .before .before .before .before .before .before .before .before .before .before .before .before .before .before .before .before .if1 .taken)) .0, a .inv .0 .roomy, a .inv .1 .1 .1 .1 .1 .1) in
-    let long : a .at + k ≤ length (now (start .args .input)) = omega (arith, c .before .before .before .before .before .before .before .before .before .before .before .before .before .before .before .before .before .before .before .before .chunk-size .ensures .0, a .inv .0 .within) in
-    let is : length (take (a .at + k - a .at) (drop (a .at) (now (start .args .input)))) ≡ k = part-is (now (start .args .input)) (a .at) k long in
-    let out : length (take (a .n + outBytes - a .n) (drop (a .n) (a .text))) ≡ outBytes = part-is (a .text) (a .n) outBytes room in
-    left-falls (length (now (start .args .input))) (length (now (start .args .text))) (a .reading) (desk (a .block) (a .line) (a .bytes) (a .command)) (a .at) (a .n) _ _ (c .before .before .before .before .before .before .before .before .before .before .before .before .before .fill .result) _ _ (a .inv .0) (c .before .before .before .before .before .before .before .before .before .before .before .before .before .fill .ensures) (omega (arith, is, long)) (omega (arith, is, c .before .before .before .before .before .before .before .before .before .before .before .before .before .before .before .before .before .before .before .before .chunk-size .ensures .1 .1)) (omega (arith, out)) ((c .before .before .before .before .before .before .before .before .before .before .before .before .before .before .before .before .before .before .before .before .before .before .goes-on .ensures (c .before .before .before .before .before .before .before .before .before .before .before .before .before .before .before .before .before .before .before .before .before .if1 .taken)) .1)
+    left-falls (length (input b)) _ (a .reading) (desk (a .block) (a .line) (a .bytes) (a .command)) (a .at) (a .n) _ _ (c .before .before .before .before .before .before .before .before .before .before .before .before .before .fill .result) _ _ (a .inv .0) (c .before .before .before .before .before .before .before .before .before .before .before .before .before .fill .ensures) (omega (arith, chunk-long b, long b)) (omega (arith, chunk-long b, c .before .before .before .before .before .before .before .before .before .before .before .before .before .before .before .before .before .before .before .before .chunk-size .ensures .1 .1)) (omega (arith, out-long b)) (goes b .1)
 
 loop-again : tie.Need-loop-again Inv-loop μ-loop
 loop-again c =
-    let start = c .before .before .before .before .before .before .before .before .before .before .before .before .before .before .before .before .before .before .before .before .before .before .before .before .before .before .before .before .before .before .before .before .before .before .before in
+    let b = c .before .before .before .before .before .before .before .before .before .before .before .before .before .before in
     let a = c .before .before .before .before .before .before .before .before .before .before .before .before .before .before .before .before .before .before .before .before .before .before .before .loop in
-    let k = c .before .before .before .before .before .before .before .before .before .before .before .before .before .before .before .before .before .before .before .before .chunk-size .result in
-    let room : a .n + outBytes ≤ length (a .text) = omega (arith, (c .before .before .before .before .before .before .before .before .before .before .before .before .before .before .before .before .before .before .before .before .before .before .goes-on .ensures (c .before .before .before .before .before .before .before .before .before .before .before .before .before .before .before .before .before .before .before .before .before .if1 .taken)) .0, a .inv .0 .roomy, a .inv .1 .1 .1 .1 .1 .1) in
-    let long : a .at + k ≤ length (now (start .args .input)) = omega (arith, c .before .before .before .before .before .before .before .before .before .before .before .before .before .before .before .before .before .before .before .before .chunk-size .ensures .0, a .inv .0 .within) in
-    let is : length (take (a .at + k - a .at) (drop (a .at) (now (start .args .input)))) ≡ k = part-is (now (start .args .input)) (a .at) k long in
-    let out : length (take (a .n + outBytes - a .n) (drop (a .n) (a .text))) ≡ outBytes = part-is (a .text) (a .n) outBytes room in
     let f = c .before .before .before .before .before .before .before .before .before .before .before .before .before .fill in
     let l = a .inv .1 .1 in (
-      stands-on (length (now (start .args .input))) (length (now (start .args .text))) (a .reading) (desk (a .block) (a .line) (a .bytes) (a .command)) (a .at) (a .n) _ _ (c .before .before .before .before .before .before .before .before .before .before .before .before .before .fill .result) _ _ (a .inv .0) (c .before .before .before .before .before .before .before .before .before .before .before .before .before .fill .ensures) (omega (arith, is, long)) (c .kept .result) (c .kept .ensures) (omega (arith, out, room, l .1 .1 .1 .1)),
+      stands-on (length (input b)) _ (a .reading) (desk (a .block) (a .line) (a .bytes) (a .command)) (a .at) (a .n) _ _ (f .result) _ _ (a .inv .0) (f .ensures) (omega (arith, chunk-long b, long b)) (c .kept .result) (c .kept .ensures) (omega (arith, out-long b, room b, l .1 .1 .1 .1)),
       (a .inv .1 .0, (f .kept .1 .0 ∙ l .0, (f .kept .1 .1 .0 ∙ l .1 .0, (f .kept .1 .1 .1 .0 ∙ l .1 .1 .0, (f .kept .1 .1 .1 .1 .0 ∙ l .1 .1 .1 .0, search needs))))),
     )
 
@@ -155,7 +165,7 @@ same-length-5 : tie.Need-same-length-5 Inv-loop μ-loop
 same-length-5 c = c .before .before .loop .inv .1 .1 .1 .1 .1 .1
 
 returns : tie.Need-returns Inv-loop μ-loop
-returns c = (c .before .before .loop .inv .0 .fit .valid, (c .before .before .loop .inv .0 .roomy, c .before .before .loop .inv .1 .0))
+returns c = (c .before .before .loop .inv .0 .fit .valid, c .before .before .loop .inv .0 .roomy)
 
 pub read-log-spec : {M : Type 1} → statement M
 read-log-spec =

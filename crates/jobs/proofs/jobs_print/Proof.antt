@@ -1,8 +1,9 @@
 -- The sizes are those that were tested.
+use native.Mathlib.Omega.{arith}
 use borrow.Author.Tests.{not-false}
 use borrow.Author.Needs.{needs}
-use Rattle.jobs.proofs.jobs_plate.Statement.{statement}
-use Rattle.jobs.proofs.jobs_plate.Tie as tie
+use Rattle.jobs.proofs.jobs_print.Statement.{statement}
+use Rattle.jobs.proofs.jobs_print.Tie as tie
 
 are-sized-requires : tie.Need-are-sized-requires
 are-sized-requires c κs = search needs
@@ -21,8 +22,11 @@ read-log-requires c κs =
     let s = c .before .before .before .before .before .before .before .before .are-sized .ensures (not-false _ (c .before .before .before .before .before .before .before .if1 .left)) in
     (record { block-long = s .1 .0; line-long = s .1 .1 .0; bytes-long = s .1 .1 .1 .0; command-long = s .1 .1 .1 .1 }, s .0)
 
-picture-requires : tie.Need-picture-requires
-picture-requires c κs = search needs
+finish-requires : tie.Need-finish-requires
+finish-requires c κs =
+    let r = c .before .before .before .before .before .before .before .before .before .before .before .before .before .read-log in
+    let k = r .kept .1 .1 .1 .1 .1 .0 in
+    ((r .ensures .0, omega (arith, r .ensures .1, k)), (omega (arith, c .before .before .before .before .before .before .before .before .before .before .before .before .before .before .before .before .before .before .before .before .if2 .left), omega (arith, c .before .before .before .before .before .before .before .before .before .before .before .before .before .before .before .before .before .before .before .if3 .left, k)))
 
 same-length : tie.Need-same-length
 same-length c = search needs
@@ -45,8 +49,8 @@ same-length-6 c = search needs
 returns-4 : tie.Need-returns-4
 returns-4 c = search needs
 
-pub jobs-plate-spec : {M : Type 1} → statement M
-jobs-plate-spec =
+pub jobs-print-spec : {M : Type 1} → statement M
+jobs-print-spec =
     tie.close
     (tie.spec
     are-sized-requires
@@ -54,7 +58,7 @@ jobs-plate-spec =
     returns-2
     returns-3
     read-log-requires
-    picture-requires
+    finish-requires
     same-length
     same-length-2
     same-length-3
