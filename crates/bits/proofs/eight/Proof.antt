@@ -1,4 +1,6 @@
 -- `bits::eight` meets its contract: each byte goes above those before it.
+use Prim.Native.Nat.{_+_, _*_}
+use mathlib.Core.Path.{_∙_}
 use borrow.Author.Needs.{needs}
 use Rattle.bits.specs.Eight.{eightAt}
 use Rattle.bits.proofs.Eights.{eight-bytes}
@@ -84,8 +86,9 @@ returns c =
     let c3 = c4 .before .before in
     let c2 = c3 .before .before in
     let c1 = c2 .before .before in
-    rw (← c1 .wide .ensures .0, ← c2 .wide2 .ensures .0, ← c3 .wide3 .ensures .0, ← c4 .wide4 .ensures .0, ← c5 .wide5 .ensures .0, ← c6 .wide6 .ensures .0, ← c7 .wide7 .ensures .0, ← c .wide8 .ensures .0)
-    (eight-bytes _ _ _ _ _ _ _ _ (c1 .wide .ensures .1) (c2 .wide2 .ensures .1) (c3 .wide3 .ensures .1) (c4 .wide4 .ensures .1) (c5 .wide5 .ensures .1) (c6 .wide6 .ensures .1) (c7 .wide7 .ensures .1) (c .wide8 .ensures .1))
+    eight-bytes _ _ _ _ _ _ _ _ (c1 .wide .ensures .1) (c2 .wide2 .ensures .1) (c3 .wide3 .ensures .1) (c4 .wide4 .ensures .1) (c5 .wide5 .ensures .1) (c6 .wide6 .ensures .1) (c7 .wide7 .ensures .1) (c .wide8 .ensures .1)
+    ∙ (λ i. c1 .wide .ensures .0 i + c2 .wide2 .ensures .0 i * 256 + c3 .wide3 .ensures .0 i * 65536 + c4 .wide4 .ensures .0 i * 16777216 + c5 .wide5 .ensures .0 i * 4294967296
+    + c6 .wide6 .ensures .0 i * 1099511627776 + c7 .wide7 .ensures .0 i * 281474976710656 + c .wide8 .ensures .0 i * 72057594037927936)
 
 pub eight-spec : {M : Type 1} → statement M
 eight-spec =
