@@ -64,7 +64,7 @@ pub fn split(held: Held, line: &mut [u8], chunk: &[u8], at: usize) -> Taken
 const STRIDE: usize = 64;
 
 // Where the first LF from `at` on stands, or the chunk's end. Most bytes of a log are digits, so they go by in strides that have no way out
-// before their end, and become vector code: `replay` on the sample log takes 0.48 of the Rust's time with them, and 0.85 byte by byte.
+// before their end, and become vector code: byte by byte, `replay` took nearly twice as long on the sample log.
 fn find_lf(chunk: &[u8], at: usize) -> usize
     requires { ⌜ at ≤ length (now chunk) ⌝ }
     ensures { λ r. ⌜ r ≡ lfAt (now (chunk .entry)) at ⌝ }
