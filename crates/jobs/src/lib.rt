@@ -15,26 +15,17 @@ ghost use Rattle.reader.specs.Fed.{Sized, chunkBytes, outBytes};
 use log::Reading;
 use reader::CHUNK_BYTES;
 use reader::OUT_BYTES;
-use transfer::pending::Landed;
 
 // A row of the picture as text, and all of them.
 const ROW: usize = 1025;
 
 const PLATE: usize = 224 * ROW;
 
-// The kind that landed, or 255.
 #[no_mangle]
-pub extern "C" fn jobs_show(block: &mut [u8], screen: &[u8]) -> u8
+pub extern "C" fn jobs_show(block: &mut [u8], screen: &[u8])
     requires { ⌜ Valid (now block) × (length (now screen) ≡ captureBytes) ⌝ }
 {
-    landed_kind(show::show(block, screen))
-}
-
-fn landed_kind(landed: Landed) -> u8 {
-    match landed {
-        Landed::Nothing => 255,
-        Landed::Page(transfer) => transfer.number(),
-    }
+    show::show(block, screen);
 }
 
 // Up to the next command: how many writes it took, and in the high byte the packets of the command.

@@ -5,7 +5,6 @@ ghost use mathlib.Core.Path.{_≡_};
 ghost use Prim.Native.Nat.{_<_, _≤_};
 ghost use lib.ListN.{length};
 ghost use Rattle.parts.specs.Parts.{blockBytes, systemBytes, filesBytes, captureBytes, tilesBytes, halfBytes, borderMapBytes, borderPalettesBytes, borderBytes};
-ghost use Rattle.layout.specs.Valid.{Valid};
 ghost use Rattle.transfer.specs.Page.{planeByte, pageBytes, pageOf};
 ghost use Rattle.transfer.specs.Landing.{palettesLanded, filesLanded, tilesLanded, mapLanded};
 ghost use Rattle.layout.specs.Valid.{Valid};
