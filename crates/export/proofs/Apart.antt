@@ -18,7 +18,7 @@ use Rattle.pulses.specs.Verdict.{judged}
 use Rattle.parts.specs.Parts.{blockBytes, storeBytes, captureBytes}
 use Rattle.layout.specs.Valid.{valid}
 use Rattle.view.specs.Refusal.{refusing}
-use Rattle.view.specs.Drawn.{modeOf, backdropAnswer, shadeAnswer, entryAnswer, borderAnswer, rowAnswer, pictureAnswer}
+use Rattle.view.specs.Looks.{modeOf, backdropAnswer, shadeAnswer, entryAnswer, borderAnswer, rowAnswer, pictureAnswer}
 use Rattle.unit.specs.Calls.{writeAnswer, screenAnswer}
 use Rattle.export.specs.Coded.{coded, value, optional, truth}
 use Rattle.export.specs.Parts.{rgbNumber}

@@ -15,7 +15,8 @@ use Rattle.parts.specs.Parts.{blockBytes}
 use Rattle.layout.specs.Valid.{valid}
 use Rattle.layout.proofs.Goods.{valid-good}
 use Rattle.view.specs.Refusal.{refusing}
-use Rattle.view.specs.Drawn.{partsOf, modeOf, rowAnswer, pictureAnswer}
+use Rattle.drawn.specs.Drawn.{partsOf}
+use Rattle.view.specs.Looks.{modeOf, rowAnswer, pictureAnswer}
 use Rattle.export.specs.Coded.{Fits}
 
 pub fits-of : {a b : Answer ℕ} → a ≡ b → Fits b → Fits a

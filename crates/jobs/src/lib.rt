@@ -7,7 +7,7 @@ ghost use Rattle.parts.specs.Parts.{blockBytes, captureBytes, storeBytes};
 ghost use Rattle.layout.specs.Block.{load};
 ghost use Rattle.layout.specs.Valid.{Valid};
 ghost use Rattle.picture.specs.Tables.{TablesOf};
-ghost use Rattle.view.specs.Drawn.{partsOf};
+ghost use Rattle.drawn.specs.Drawn.{partsOf};
 ghost use mathlib.Core.Bool.{true};
 ghost use Rattle.line.specs.Line.{lineDigits};
 ghost use Rattle.log.specs.Steps.{desk, left};
@@ -174,7 +174,7 @@ fn picture(block: &[u8], words: &mut [u16], text: &mut [u8])
     let mut spreads = [0u32; 512];
     let mut border = [0u16; 48];
     let mut game = [0u16; 16];
-    view::drawn::tables(block, &mut spreads, &mut border, &mut game);
+    drawn::tables(block, &mut spreads, &mut border, &mut game);
     rows(block, &spreads, &border, &game, words, text);
 }
 

@@ -26,7 +26,7 @@ use Rattle.text.specs.Text.{hexLine, refusalText, rowLine}
 use Rattle.text.proofs.Printed.{length-hexLine, length-rowLine}
 use Rattle.bits.proofs.Tabs.{length-tab}
 use Rattle.picture.specs.Picture.{pixelAt, rowOf}
-use Rattle.view.specs.Drawn.{partsOf, rowDrawn}
+use Rattle.drawn.specs.Drawn.{partsOf, rowDrawn}
 use Rattle.log.specs.Events.{Event, completed}
 use Rattle.log.specs.Events.{refusal as refused-line}
 use Rattle.log.specs.Texts.{shownOne, shown, headBytes, headLine}

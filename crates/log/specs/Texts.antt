@@ -5,7 +5,7 @@ use lib.ListN.{take}
 use Rattle.layout.specs.Block.{save}
 use Rattle.layout.specs.Sgb.{Sgb}
 use Rattle.picture.specs.Picture.{rowOf}
-use Rattle.view.specs.Drawn.{partsOf}
+use Rattle.drawn.specs.Drawn.{partsOf}
 use Rattle.text.specs.Text.{hexLine, refusalText, rowLine}
 use Rattle.log.specs.Events.{Event, completed, refusal, eventsOf, unitAfter}
 

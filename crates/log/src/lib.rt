@@ -14,7 +14,7 @@ ghost use Rattle.log.specs.Steps.{begun, left, fill, desk, toldOf, ranOn
 ghost use Rattle.layout.specs.Block.{load};
 ghost use Rattle.picture.specs.Picture.{rowOf};
 ghost use Rattle.picture.specs.Tables.{TablesOf};
-ghost use Rattle.view.specs.Drawn.{partsOf};
+ghost use Rattle.drawn.specs.Drawn.{partsOf};
 ghost use Rattle.log.specs.Texts.{shown, headBytes, headLine};
 ghost use Rattle.bits.specs.Over.{over};
 use line::Line;
@@ -351,6 +351,6 @@ pub fn row_line(
     ensures { λ _. ⌜ now (words .exit) ≡ rowOf (partsOf (load (now (block .entry)))) y ⌝ }
     ensures { λ _. ⌜ now (out .exit) ≡ over 0 1025 (rowLine (rowOf (partsOf (load (now (block .entry)))) y)) (now (out .entry)) ⌝ }
 {
-    view::drawn::row_from(block, spreads, border, game, y, words);
+    drawn::row_from(block, spreads, border, game, y, words);
     text::row_line(words, out);
 }

@@ -6,7 +6,7 @@ ghost use lib.ListN.{length};
 ghost use Rattle.layout.specs.Valid.{Valid};
 ghost use Rattle.layout.specs.Block.{load};
 ghost use Rattle.picture.specs.Tables.{TablesOf};
-ghost use Rattle.view.specs.Drawn.{partsOf};
+ghost use Rattle.drawn.specs.Drawn.{partsOf};
 ghost use Rattle.log.specs.Steps.{desk};
 ghost use Rattle.reader.specs.Fed.{Sized, chunkBytes, outBytes};
 use reader::Fed;
@@ -68,7 +68,7 @@ fn picture(block: &[u8], out: &mut [u8])
     let mut spreads = [0u32; 512];
     let mut border = [0u16; 48];
     let mut game = [0u16; 16];
-    view::drawn::tables(block, &mut spreads, &mut border, &mut game);
+    drawn::tables(block, &mut spreads, &mut border, &mut game);
     let mut words = [0u16; 256];
     rows(block, &spreads, &border, &game, &mut words, out);
 }

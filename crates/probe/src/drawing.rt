@@ -8,7 +8,7 @@ ghost use Rattle.parts.specs.Parts.{blockBytes, systemBytes, filesBytes, captur
 ghost use Rattle.transfer.specs.Page.{planeByte, pageBytes, pageOf};
 ghost use Rattle.transfer.specs.Landing.{palettesLanded, filesLanded, tilesLanded, mapLanded};
 ghost use Rattle.layout.specs.Valid.{Valid};
-ghost use Rattle.view.specs.Drawn.{rowDrawn, pictureDrawn};
+ghost use Rattle.drawn.specs.Drawn.{rowDrawn, pictureDrawn};
 
 #[no_mangle]
 pub extern "C" fn probe_plane_byte(screen: &[u8], t: usize, r: usize, p: usize) -> u8
@@ -156,7 +156,7 @@ pub extern "C" fn probe_row(block: &[u8], y: usize, out: &mut [u16])
     requires { ⌜ (y < 224) × (256 ≤ length (now out)) ⌝ }
     ensures { λ _. ⌜ now (out .exit) ≡ rowDrawn (now (block .entry)) y (now (out .entry)) ⌝ }
 {
-    view::drawn::draw_row(block, y, out);
+    drawn::draw_row(block, y, out);
 }
 
 #[no_mangle]
@@ -165,5 +165,5 @@ pub extern "C" fn probe_picture(block: &[u8], out: &mut [u16])
     requires { ⌜ 57344 ≤ length (now out) ⌝ }
     ensures { λ _. ⌜ now (out .exit) ≡ pictureDrawn (now (block .entry)) (now (out .entry)) ⌝ }
 {
-    view::drawn::draw_picture(block, out);
+    drawn::draw_picture(block, out);
 }

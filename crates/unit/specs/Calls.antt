@@ -16,7 +16,7 @@ use Rattle.rules.specs.Write.{written, answer}
 use Rattle.rules.specs.Screen.{screened, landing}
 use Rattle.port.specs.Bytes.{handed, packetsIn}
 use Rattle.view.specs.Refusal.{refusing}
-use Rattle.view.specs.Drawn.{leaves}
+use Rattle.view.specs.Looks.{leaves}
 
 -- ---- a joypad write, with a buffer for the command that it may complete: refusals 1, 2, 6 (112)
 

@@ -17,7 +17,8 @@ use Rattle.parts.specs.Parts.{blockBytes}
 use Rattle.layout.specs.Block.{load}
 use Rattle.layout.specs.Valid.{valid}
 use Rattle.view.specs.Refusal.{refusing}
-use Rattle.view.specs.Drawn.{partsOf, rowAnswer, rowDrawn, pictureAnswer, pictureDrawn, leaves}
+use Rattle.drawn.specs.Drawn.{partsOf, rowDrawn, pictureDrawn}
+use Rattle.view.specs.Looks.{rowAnswer, pictureAnswer, leaves}
 use Rattle.view.proofs.Refusals.{draws}
 
 -- a call that draws was asked for a row of the picture

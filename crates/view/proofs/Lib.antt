@@ -1,4 +1,3 @@
 pub mod Refusals
-pub mod Lent
 pub mod Told
 pub mod Alone

@@ -11,7 +11,7 @@ use Rattle.pulses.specs.Answer.{Answer, refused, given}
 use Rattle.parts.specs.Parts.{blockBytes}
 use Rattle.layout.specs.Valid.{valid}
 use Rattle.view.specs.Refusal.{refusing, refusalOf, Valid}
-use Rattle.view.specs.Drawn.{leaves}
+use Rattle.view.specs.Looks.{leaves}
 
 -- a number that is not 0 is the answer, whatever was asked
 pub refuses : {A : Type 0} (b : List ℕ) (a : Answer A) (r : ℕ) → r ≡ refusalOf b → (r ≡ 0 → ⊥) → refused r ≡ refusing b a

@@ -1,3 +1,3 @@
 pub mod Refusal
-pub mod Drawn
+pub mod Looks
 pub mod Answers

@@ -1,19 +1,17 @@
 // The public calls that only look at a block. Document 01, Refusals by number, and Screens, border and picture.
 // None asks anything of its caller: a block of another length is refused (1), one that is not valid (2), then what is asked (4, 6).
-// A refusal changes no lent byte. The meaning is in specs/Drawn, with the refusals inside. Each call tests, and then asks a worker of
+// A refusal changes no lent byte. The meaning is in specs/Looks, with the refusals inside. Each call tests, and then asks a worker of
 // `drawn`, which takes a valid block and refuses nothing; whoever looks at one block many times asks `refusal` once and then the workers.
 ghost use mathlib.Core.Path.{_≡_};
 ghost use Rattle.pulses.specs.Answer.{given};
 ghost use Rattle.border.specs.Border.{colourOf};
 ghost use Rattle.view.specs.Refusal.{refusalOf};
-ghost use Rattle.view.specs.Drawn.{modeOf, backdropAnswer, shadeAnswer, entryAnswer, borderAnswer, rowAnswer, rowDrawn, pictureAnswer, pictureDrawn, leaves};
+ghost use Rattle.drawn.specs.Drawn.{rowDrawn, pictureDrawn};
+ghost use Rattle.view.specs.Looks.{modeOf, backdropAnswer, shadeAnswer, entryAnswer, borderAnswer, rowAnswer, pictureAnswer, leaves};
 ghost use Rattle.view.specs.Answers.{numberTold, colourTold, entryTold, borderTold};
 use border::BorderColor;
 use colour::BorderMapEntry;
 use colour::Rgb555;
-
-pub mod drawn;
-mod of_block;
 
 // A refusal by its number, or a number that was asked for.
 pub enum Number {
@@ -54,7 +52,7 @@ pub fn mask_mode(block: &[u8]) -> Number
     if no != 0 {
         return Number::Refused(no);
     }
-    Number::Is(bits::wide(of_block::mode(block)))
+    Number::Is(bits::wide(drawn::of_block::mode(block)))
 }
 
 // The colour of everything that nothing covers.

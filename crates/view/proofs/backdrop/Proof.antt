@@ -3,7 +3,7 @@ use borrow.Author.Needs.{needs}
 use mathlib.Core.Path.{ap, _∙_}
 use Rattle.pulses.specs.Answer.{given}
 use Rattle.view.specs.Answers.{colourTold}
-use Rattle.view.specs.Drawn.{backdropAnswer}
+use Rattle.view.specs.Looks.{backdropAnswer}
 use Rattle.view.proofs.Refusals.{refuses, accepts, answers}
 use Rattle.view.proofs.backdrop.Statement.{statement}
 use Rattle.view.proofs.backdrop.Tie as tie

@@ -4,7 +4,7 @@ use mathlib.Core.Path.{ap, _∙_}
 use borrow.Author.Tests.{lt-ltb, le-ltb}
 use Rattle.pulses.specs.Answer.{given}
 use Rattle.view.specs.Answers.{borderTold}
-use Rattle.view.specs.Drawn.{borderAnswer}
+use Rattle.view.specs.Looks.{borderAnswer}
 use Rattle.view.proofs.Refusals.{refuses, accepts, answers}
 use Rattle.view.proofs.border_color_at.Statement.{statement}
 use Rattle.view.proofs.border_color_at.Tie as tie

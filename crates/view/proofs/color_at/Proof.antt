@@ -4,7 +4,7 @@ use mathlib.Core.Path.{ap, _∙_}
 use borrow.Author.Tests.{lt-ltb, le-ltb, le-leb, lt-leb}
 use Rattle.pulses.specs.Answer.{given}
 use Rattle.view.specs.Answers.{colourTold}
-use Rattle.view.specs.Drawn.{shadeAnswer}
+use Rattle.view.specs.Looks.{shadeAnswer}
 use Rattle.view.proofs.Refusals.{refuses, accepts, answers}
 use Rattle.view.proofs.color_at.Statement.{statement}
 use Rattle.view.proofs.color_at.Tie as tie

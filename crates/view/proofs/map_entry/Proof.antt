@@ -4,7 +4,7 @@ use mathlib.Core.Path.{ap, _∙_}
 use borrow.Author.Tests.{lt-ltb, le-ltb}
 use Rattle.pulses.specs.Answer.{given}
 use Rattle.view.specs.Answers.{entryTold}
-use Rattle.view.specs.Drawn.{entryAnswer}
+use Rattle.view.specs.Looks.{entryAnswer}
 use Rattle.view.proofs.Refusals.{refuses, accepts, answers}
 use Rattle.view.proofs.map_entry.Statement.{statement}
 use Rattle.view.proofs.map_entry.Tie as tie

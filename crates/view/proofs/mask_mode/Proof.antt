@@ -3,7 +3,7 @@ use borrow.Author.Needs.{needs}
 use mathlib.Core.Path.{ap, _∙_}
 use Rattle.pulses.specs.Answer.{given}
 use Rattle.view.specs.Answers.{numberTold}
-use Rattle.view.specs.Drawn.{modeOf}
+use Rattle.view.specs.Looks.{modeOf}
 use Rattle.view.proofs.Refusals.{refuses, accepts, answers}
 use Rattle.view.proofs.mask_mode.Statement.{statement}
 use Rattle.view.proofs.mask_mode.Tie as tie

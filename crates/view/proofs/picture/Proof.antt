@@ -2,7 +2,7 @@
 use borrow.Author.Needs.{needs}
 use borrow.Author.Tests.{le-leb, lt-leb}
 use Rattle.view.specs.Answers.{numberTold}
-use Rattle.view.specs.Drawn.{pictureAnswer}
+use Rattle.view.specs.Looks.{pictureAnswer}
 use Rattle.view.proofs.Refusals.{refuses, accepts, answers, keeps, draws}
 use Rattle.view.proofs.picture.Statement.{statement}
 use Rattle.view.proofs.picture.Tie as tie

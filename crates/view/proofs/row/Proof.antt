@@ -2,7 +2,7 @@
 use borrow.Author.Needs.{needs}
 use borrow.Author.Tests.{lt-ltb, le-ltb, le-leb, lt-leb}
 use Rattle.view.specs.Answers.{numberTold}
-use Rattle.view.specs.Drawn.{rowAnswer}
+use Rattle.view.specs.Looks.{rowAnswer}
 use Rattle.view.proofs.Refusals.{refuses, accepts, answers, keeps, draws}
 use Rattle.view.proofs.row.Statement.{statement}
 use Rattle.view.proofs.row.Tie as tie
