@@ -15,7 +15,7 @@ use Rattle.parts.specs.Parts.{blockBytes}
 use Rattle.layout.specs.Valid.{valid}
 use Rattle.layout.proofs.Goods.{valid-good}
 use Rattle.view.specs.Refusal.{refusing}
-use Rattle.drawn.specs.Drawn.{partsOf}
+use Rattle.block_picture.specs.Drawn.{partsOf}
 use Rattle.view.specs.Looks.{modeOf, rowAnswer, pictureAnswer}
 use Rattle.export.specs.Coded.{Fits}
 

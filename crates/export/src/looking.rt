@@ -1,7 +1,7 @@
 // The calls that only look at a block (the crate `view`), and the colour that a screen shows for a colour word (`colour`).
 ghost use mathlib.Core.Path.{_≡_};
 ghost use Rattle.colour.specs.Colour.{rgb8};
-ghost use Rattle.drawn.specs.Drawn.{rowDrawn, pictureDrawn};
+ghost use Rattle.block_picture.specs.Drawn.{rowDrawn, pictureDrawn};
 ghost use Rattle.view.specs.Looks.{modeOf, backdropAnswer, shadeAnswer, entryAnswer, borderAnswer, rowAnswer, pictureAnswer, leaves};
 ghost use Rattle.export.specs.Coded.{coded, value, optional};
 ghost use Rattle.export.specs.Parts.{rgbNumber};

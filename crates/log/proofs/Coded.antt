@@ -5,35 +5,35 @@ use Prim.Native.Nat.{ℕ, zero, suc, _+_, _-_, _*_, _≤_, _<_}
 use native.Mathlib.Omega.{arith}
 use lib.ListN.{length, take, drop, length-take, take-append-drop, drop-of-length-le}
 use Rattle.layout.specs.Block.{load}
-use Rattle.port.specs.Bytes.{packetsIn}
-use Rattle.play.specs.Play.{played}
+use Rattle.block_write.specs.Bytes.{packetsIn}
+use Rattle.block_writes.specs.Play.{played}
 use Rattle.layout.specs.Block.{save}
 use Rattle.bits.specs.Answer.{given}
 use Rattle.bits.specs.Answer.{refused as refusal}
 use Rattle.rules.specs.Screen.{screened}
 use Rattle.bits.proofs.Overs.{over-all}
 use Rattle.parts.specs.Parts.{captureBytes}
-use Rattle.line.specs.Line.{Meaning, writes, screen, refused, meaningOf}
-use Rattle.line.specs.Lines.{meaningMarked}
-use Rattle.line.specs.Split.{heldAs}
-use Rattle.line.specs.Calls.{writesOf, oneScreen, lineTold, meaningTold, filled, lineAnswer, lineBytes}
-use Rattle.line.proofs.Splitting.{held-long, held-means}
+use Rattle.log_line.specs.Line.{Meaning, writes, screen, refused, meaningOf}
+use Rattle.log_line.specs.Lines.{meaningMarked}
+use Rattle.log_line.specs.Split.{heldAs}
+use Rattle.log_line.specs.Calls.{writesOf, oneScreen, lineTold, meaningTold, filled, lineAnswer, lineBytes}
+use Rattle.log_line.proofs.Splitting.{held-long, held-means}
 use borrow.Author.Tests.{le-leb, lt-leb, lt-ltb, le-ltb}
 use lib.Dec.{leb, ltb}
 use mathlib.Core.Bool.{Bool, true, false}
 use Rattle.bits.specs.Over.{over}
-use Rattle.text.specs.Text.{hexLine, refusalText, rowLine}
-use Rattle.text.proofs.Printed.{length-hexLine, length-rowLine}
+use Rattle.log_text.specs.Text.{hexLine, refusalText, rowLine}
+use Rattle.log_text.proofs.Printed.{length-hexLine, length-rowLine}
 use Rattle.bits.proofs.Tabs.{length-tab}
 use Rattle.picture.specs.Picture.{pixelAt, rowOf}
-use Rattle.drawn.specs.Drawn.{partsOf, rowDrawn}
+use Rattle.block_picture.specs.Drawn.{partsOf, rowDrawn}
 use Rattle.log.specs.Events.{Event, completed}
 use Rattle.log.specs.Events.{refusal as refused-line}
 use Rattle.log.specs.Texts.{shownOne, shown, headBytes, headLine}
 use Rattle.log.proofs.Takes.{Fits, fits-line}
 use Rattle.log.proofs.Keeps.{filled-long}
-use Rattle.line.specs.declared.Line.{Line}
-use Rattle.line.specs.declared.Line.the-variants as L
+use Rattle.log_line.specs.declared.Line.{Line}
+use Rattle.log_line.specs.declared.Line.the-variants as L
 use Rattle.log.specs.Steps.{Desk, desk, pending, toldOf, ranOn, playedTo, answerOf, nextLine, endedAs, ended, toldBy, ToldFits, goesOn, stepRoom, left, lastLf}
 use Rattle.log.specs.declared.Reading.{Reading}
 use Rattle.log.specs.declared.Step.{Step}

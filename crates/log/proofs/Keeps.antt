@@ -18,12 +18,12 @@ use Rattle.rules.specs.Write.{written, answer}
 use Rattle.rules.specs.Screen.{screened}
 use Rattle.rules.proofs.Keeps.{good-screened}
 use Rattle.unit.proofs.Writes.{length-handed}
-use Rattle.play.specs.Play.{Played, stop, played}
-use Rattle.line.specs.Line.{Meaning, writes, screen, refused}
-use Rattle.line.specs.Lines.{meaningMarked}
-use Rattle.line.specs.Split.{heldAs, taken, tookHeld, tookLine, upToLf, lfAt}
-use Rattle.line.specs.Calls.{filled}
-use Rattle.line.proofs.Splitting.{lf-within, took-fits, length-took}
+use Rattle.block_writes.specs.Play.{Played, stop, played}
+use Rattle.log_line.specs.Line.{Meaning, writes, screen, refused}
+use Rattle.log_line.specs.Lines.{meaningMarked}
+use Rattle.log_line.specs.Split.{heldAs, taken, tookHeld, tookLine, upToLf, lfAt}
+use Rattle.log_line.specs.Calls.{filled}
+use Rattle.log_line.proofs.Splitting.{lf-within, took-fits, length-took}
 use Rattle.log.specs.Steps.{Desk, Stepped, pending, playedTo, ranOn, endedAs, ended, took, tookOn, stepped, holding, withLine, left, Fit}
 use Rattle.log.specs.declared.Reading.{Reading}
 use Rattle.log.proofs.Tells.{Kept, kept-played}

@@ -14,11 +14,11 @@ use Rattle.layout.specs.Block.{load, save}
 use Rattle.layout.specs.Fresh.{postBoot}
 use Rattle.layout.specs.Sgb.{Sgb}
 use Rattle.layout.proofs.Saved.{clauses, save-load}
-use Rattle.line.specs.Lines.{markedFrom, meaningMarked}
-use Rattle.line.specs.Split.{heldAs}
-use Rattle.line.proofs.Marked.{marked-last}
-use Rattle.line.proofs.Splitting.{long-not-empty, held-not-empty}
-use Rattle.text.specs.Text.{refusalText}
+use Rattle.log_line.specs.Lines.{markedFrom, meaningMarked}
+use Rattle.log_line.specs.Split.{heldAs}
+use Rattle.log_line.proofs.Marked.{marked-last}
+use Rattle.log_line.proofs.Splitting.{long-not-empty, held-not-empty}
+use Rattle.log_text.specs.Text.{refusalText}
 use Rattle.log.specs.Events.{Event, completed, refusal, writeEvents, afterWrites, eventsFrom, afterLines, eventsOf, unitAfter}
 use Rattle.log.specs.Texts.{shown, headLine, replayText, pictureLines, refusedOr, plateText}
 use Rattle.log.specs.Steps.{Desk, Stepped, begun, pending, stepped, toldBy, eventsOn, isRefused, left, Filling, goesOn, nextBy, next, fills, fill, lastLf, toTell, toEnd, Fit}

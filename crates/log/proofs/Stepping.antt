@@ -8,20 +8,20 @@ use native.Mathlib.Omega.{arith}
 use borrow.Author.Tests.{lt-ltb, le-ltb}
 use lib.Dec.{ltb}
 use lib.ListN.{length, drop}
-use Rattle.line.specs.Line.{lineDigits, Meaning, writes, screen, refused}
-use Rattle.line.specs.Lines.{meaningMarked}
-use Rattle.line.specs.Split.{heldAs, taken, tookLine, upToLf}
-use Rattle.line.specs.declared.lines.Held.{Held}
-use Rattle.line.specs.declared.lines.Taken.{Taken}
-use Rattle.line.proofs.Splitting.{took-fits}
+use Rattle.log_line.specs.Line.{lineDigits, Meaning, writes, screen, refused}
+use Rattle.log_line.specs.Lines.{meaningMarked}
+use Rattle.log_line.specs.Split.{heldAs, taken, tookLine, upToLf}
+use Rattle.log_line.specs.declared.lines.Held.{Held}
+use Rattle.log_line.specs.declared.lines.Taken.{Taken}
+use Rattle.log_line.proofs.Splitting.{took-fits}
 use Rattle.bits.specs.Over.{over}
 use Rattle.bits.proofs.Tests.{either}
 use Rattle.layout.specs.Block.{load}
 use Rattle.layout.specs.Valid.{Valid}
 use Rattle.layout.proofs.Goods.{valid-good}
 use Rattle.rules.proofs.Keeps.{WholeIf}
-use Rattle.port.specs.Bytes.{packetsIn}
-use Rattle.play.specs.Play.{played}
+use Rattle.block_write.specs.Bytes.{packetsIn}
+use Rattle.block_writes.specs.Play.{played}
 use Rattle.log.specs.Texts.{shown}
 use Rattle.log.specs.Steps.{Desk, desk, Stepped, answerOf, toldOf, ranOn, playedTo, pending, endedAs, ended, took, tookOn, stepped, holding, withLine, toldBy, ToldFits, eventsOn, isRefused, filledBy, Said}
 use Rattle.log.proofs.Tells.{kept-played}

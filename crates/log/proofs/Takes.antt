@@ -19,11 +19,11 @@ use Rattle.layout.proofs.Goods.{valid-good, good-back}
 use Rattle.rules.specs.Screen.{screened}
 use Rattle.rules.proofs.Keeps.{good-screened}
 use Rattle.parts.specs.Parts.{captureBytes}
-use Rattle.line.specs.Line.{Meaning, writes, screen, refused, byKind, byBytes, meaningOf}
-use Rattle.line.specs.Lines.{markedFrom, meaningMarked, grown}
-use Rattle.line.specs.Split.{heldAs, taken, tookHeld, tookLine, upToLf, lfAt}
-use Rattle.line.specs.Calls.{filled}
-use Rattle.line.proofs.Splitting.{lines-lf, lines-end, kept-held, took-grown}
+use Rattle.log_line.specs.Line.{Meaning, writes, screen, refused, byKind, byBytes, meaningOf}
+use Rattle.log_line.specs.Lines.{markedFrom, meaningMarked, grown}
+use Rattle.log_line.specs.Split.{heldAs, taken, tookHeld, tookLine, upToLf, lfAt}
+use Rattle.log_line.specs.Calls.{filled}
+use Rattle.log_line.proofs.Splitting.{lines-lf, lines-end, kept-held, took-grown}
 use Rattle.log.specs.Events.{Event, writeEvents, afterWrites, lineEvents, afterLine, eventsFrom, afterLines}
 use Rattle.log.specs.Steps.{Desk, Stepped, pending, endedAs, ended, took, tookOn, holding, withLine, toldBy, eventsOn, toTell, toEnd, Fit}
 use Rattle.log.specs.declared.Reading.{Reading}

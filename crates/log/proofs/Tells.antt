@@ -13,10 +13,10 @@ use Rattle.layout.specs.Sgb.{Sgb}
 use Rattle.layout.proofs.Goods.{valid-good, good-back}
 use Rattle.rules.specs.Write.{written, answer}
 use Rattle.rules.proofs.Keeps.{WholeIf, good-written, answered-whole}
-use Rattle.port.specs.Bytes.{handed, packetsIn}
-use Rattle.play.specs.Play.{Played, stop, played}
-use Rattle.line.specs.Lines.{markedFrom, meaningMarked}
-use Rattle.line.specs.Split.{heldAs}
+use Rattle.block_write.specs.Bytes.{handed, packetsIn}
+use Rattle.block_writes.specs.Play.{Played, stop, played}
+use Rattle.log_line.specs.Lines.{markedFrom, meaningMarked}
+use Rattle.log_line.specs.Split.{heldAs}
 use Rattle.log.specs.Events.{Event, completed, answerEvents, writeEvents, afterWrites, eventsFrom, afterLines}
 use Rattle.log.specs.Steps.{Desk, pending, toldOf, playedTo, ranOn, toldBy, eventsOn, toTell, toEnd, Fit}
 use Rattle.log.specs.declared.Reading.{Reading}

@@ -10,13 +10,13 @@ use Rattle.layout.specs.Fresh.{fresh, postBoot}
 use Rattle.layout.specs.Sgb.{Sgb}
 use Rattle.layout.proofs.Goods.{good-back}
 use Rattle.layout.proofs.Freshes.{fresh-good}
-use Rattle.line.specs.Line.{Meaning}
-use Rattle.line.specs.Lines.{markedFrom, lastMarked}
-use Rattle.line.specs.Split.{heldAs}
+use Rattle.log_line.specs.Line.{Meaning}
+use Rattle.log_line.specs.Lines.{markedFrom, lastMarked}
+use Rattle.log_line.specs.Split.{heldAs}
 use Rattle.log.specs.Events.{writeEvents, afterWrites, eventsFrom, afterLines, meanings, eventsOf, unitAfter}
 use Rattle.log.specs.Steps.{Desk, begun, pending, toTell, toEnd}
 use Rattle.log.specs.declared.Reading.{Reading}
-use Rattle.line.proofs.Marked.{marked-meanings}
+use Rattle.log_line.proofs.Marked.{marked-meanings}
 use Rattle.log.proofs.Takes.{no-pending}
 
 -- ---- the beginning

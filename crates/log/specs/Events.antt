@@ -9,8 +9,8 @@ use Rattle.layout.specs.Fresh.{fresh}
 use Rattle.layout.specs.Sgb.{Sgb}
 use Rattle.rules.specs.Write.{written, answer}
 use Rattle.rules.specs.Screen.{screened}
-use Rattle.line.specs.Line.{Meaning, writes, screen, refused, meaningOf}
-use Rattle.line.specs.Lines.{linesOf}
+use Rattle.log_line.specs.Line.{Meaning, writes, screen, refused, meaningOf}
+use Rattle.log_line.specs.Lines.{linesOf}
 
 pub data Event : Type 0 where
   completed : List ℕ → Event

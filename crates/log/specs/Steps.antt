@@ -13,13 +13,13 @@ use Rattle.parts.specs.Parts.{captureBytes, storeBytes}
 use Rattle.layout.specs.Sgb.{Sgb}
 use Rattle.layout.specs.Valid.{Valid}
 use Rattle.rules.specs.Screen.{screened}
-use Rattle.port.specs.Bytes.{handed, packetsIn}
-use Rattle.play.specs.Play.{Played, played}
-use Rattle.line.specs.Line.{lineDigits, Meaning, writes, screen, refused}
-use Rattle.line.specs.Lines.{markedFrom, meaningMarked}
-use Rattle.line.specs.Split.{heldAs, nothing, taken, tookLine, upToLf}
-use Rattle.line.specs.Calls.{filled}
-use Rattle.line.specs.declared.lines.Held.{Held}
+use Rattle.block_write.specs.Bytes.{handed, packetsIn}
+use Rattle.block_writes.specs.Play.{Played, played}
+use Rattle.log_line.specs.Line.{lineDigits, Meaning, writes, screen, refused}
+use Rattle.log_line.specs.Lines.{markedFrom, meaningMarked}
+use Rattle.log_line.specs.Split.{heldAs, nothing, taken, tookLine, upToLf}
+use Rattle.log_line.specs.Calls.{filled}
+use Rattle.log_line.specs.declared.lines.Held.{Held}
 use Rattle.log.specs.Events.{Event, completed, refusal, writeEvents, afterWrites, eventsFrom, afterLines}
 use Rattle.log.specs.Texts.{shown}
 use Rattle.log.specs.declared.Reading.{Reading}

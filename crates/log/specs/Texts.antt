@@ -5,8 +5,8 @@ use lib.ListN.{take}
 use Rattle.layout.specs.Block.{save}
 use Rattle.layout.specs.Sgb.{Sgb}
 use Rattle.picture.specs.Picture.{rowOf}
-use Rattle.drawn.specs.Drawn.{partsOf}
-use Rattle.text.specs.Text.{hexLine, refusalText, rowLine}
+use Rattle.block_picture.specs.Drawn.{partsOf}
+use Rattle.log_text.specs.Text.{hexLine, refusalText, rowLine}
 use Rattle.log.specs.Events.{Event, completed, refusal, eventsOf, unitAfter}
 
 -- ---- `replay`: "each completed command in upper-case hex, `line N: 7` .. for a refused line .., and last the block's first 13 bytes"

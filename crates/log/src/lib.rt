@@ -8,23 +8,23 @@ ghost use lib.ListN.{length, take};
 ghost use mathlib.Core.List.{[]};
 ghost use Rattle.parts.specs.Parts.{captureBytes, storeBytes};
 ghost use Rattle.layout.specs.Valid.{Valid};
-ghost use Rattle.text.specs.Text.{hexLine, rowLine};
-ghost use Rattle.line.specs.Line.{lineDigits};
+ghost use Rattle.log_text.specs.Text.{hexLine, rowLine};
+ghost use Rattle.log_line.specs.Line.{lineDigits};
 ghost use Rattle.log.specs.Steps.{begun, left, fill, desk, toldOf, ranOn, answerOf, ended, stepped, Fit, goesOn, stepRoom, ToldFits, Said, Full, isRefused, toldBy, lastLf, nextLine, most64};
 ghost use Rattle.layout.specs.Block.{load};
 ghost use Rattle.picture.specs.Picture.{rowOf};
 ghost use Rattle.picture.specs.Tables.{TablesOf};
-ghost use Rattle.drawn.specs.Drawn.{partsOf};
+ghost use Rattle.block_picture.specs.Drawn.{partsOf};
 ghost use Rattle.log.specs.Texts.{shown, headBytes, headLine};
 ghost use Rattle.bits.specs.Over.{over};
-use line::Line;
-use line::lines::Held;
-use line::lines::split;
-use line::parse;
-use play::play;
-use show::show;
-use text::command_line;
-use text::refusal_line;
+use block_screen::show;
+use block_writes::play;
+use log_line::Line;
+use log_line::lines::Held;
+use log_line::lines::split;
+use log_line::parse;
+use log_text::command_line;
+use log_text::refusal_line;
 
 // The room that the longest text of a step needs: a command of 112 bytes has 225.
 const STEP_ROOM: usize = 256;
@@ -351,6 +351,6 @@ pub fn row_line(
     ensures { λ _. ⌜ now (words .exit) ≡ rowOf (partsOf (load (now (block .entry)))) y ⌝ }
     ensures { λ _. ⌜ now (out .exit) ≡ over 0 1025 (rowLine (rowOf (partsOf (load (now (block .entry)))) y)) (now (out .entry)) ⌝ }
 {
-    drawn::row_from(block, spreads, border, game, y, words);
-    text::row_line(words, out);
+    block_picture::row_from(block, spreads, border, game, y, words);
+    log_text::row_line(words, out);
 }

@@ -22,8 +22,8 @@ use Rattle.screen.specs.Colours.{backdropOf, maskedOf, screenPixel}
 use Rattle.border.specs.Tile.{tilePart, indexIn}
 use Rattle.border.specs.Border.{entryAt, draws, flipped, indexOf, inPalette, opaque, borderAt}
 use Rattle.border.proofs.Entries.{drawn-palette, index-lt}
-use Rattle.lanes.specs.Lanes.{spreadOf}
-use Rattle.runs.specs.Runs.{Tables, baseOf, within, screenFrom, runPixel, pixelIn}
+use Rattle.picture_lanes.specs.Lanes.{spreadOf}
+use Rattle.picture_runs.specs.Runs.{Tables, baseOf, within, screenFrom, runPixel, pixelIn}
 use Rattle.picture.specs.Picture.{Parts, onScreen, below, pixelAt, rowOf, pictureOf}
 use Rattle.picture.specs.Tables.{borderColor, gameColor, TablesOf, pixelOn}
 

@@ -7,8 +7,8 @@ use lib.Dec.{eqb}
 use Rattle.bits.specs.Word.{wordAt}
 use Rattle.bits.specs.Tab.{tab}
 use Rattle.screen.specs.Colours.{backdropOf, maskedOf}
-use Rattle.lanes.specs.Lanes.{spreadOf}
-use Rattle.runs.specs.Runs.{pixelIn}
+use Rattle.picture_lanes.specs.Lanes.{spreadOf}
+use Rattle.picture_runs.specs.Runs.{pixelIn}
 use Rattle.picture.specs.Picture.{Parts}
 
 -- the border's 48 colours, with the backdrop where a border pixel is transparent

@@ -1,5 +1,5 @@
 // The SNES picture: the backdrop, the displayed screen at (48, 40), and the border over both (document 01, Screens, border and picture).
-// Rust: `snes_picture`. A row goes by runs of eight pixels (`runs`) from tables that are made once: with a full border a sixth of the Rust's time.
+// Rust: `snes_picture`. A row goes by runs of eight pixels (`picture_runs`) from tables that are made once: with a full border a sixth of the Rust's time.
 ghost use mathlib.Core.Path.{_≡_};
 ghost use Prim.Native.Nat.{_<_, _≤_, _+_, _/_, _%_};
 ghost use lib.ListN.{length};
@@ -7,8 +7,8 @@ ghost use Rattle.parts.specs.Parts.{presetBytes, palettesBytes, borderPalettesB
 ghost use Rattle.bits.specs.Tab.{tab};
 ghost use Rattle.bits.specs.Paint.{Painted};
 ghost use Rattle.screen.specs.Colours.{backdropOf};
-ghost use Rattle.lanes.specs.Lanes.{spreadOf};
-ghost use Rattle.runs.specs.Runs.{Lent, Tables};
+ghost use Rattle.picture_lanes.specs.Lanes.{spreadOf};
+ghost use Rattle.picture_runs.specs.Runs.{Lent, Tables};
 ghost use Rattle.picture.specs.Tables.{borderColor, gameColor, pixelOn};
 
 // The tables, made once for as many rows as are drawn from them.
@@ -28,7 +28,7 @@ pub fn tables(
     ensures { λ _. ⌜ now (border .exit) ≡ tab 48 (borderColor (now (borders .entry)) (backdropOf (now (palettes .entry)) (now (preset .entry)) «in_force»)) ⌝ }
     ensures { λ _. ⌜ now (game .exit) ≡ tab 16 (gameColor (now (palettes .entry)) (now (preset .entry)) «in_force» mode) ⌝ }
 {
-    lanes::fill_spreads(spreads);
+    picture_lanes::fill_spreads(spreads);
     let back = screen::backdrop(palettes, preset, in_force).0;
     border_colors(border, borders, back);
     game_colors(game, palettes, preset, in_force, mode);
@@ -88,7 +88,7 @@ pub fn row(
 {
     let mut c = 0;
     while c < 32 {
-        runs::run(
+        picture_runs::run(
             out,
             at + c * 8,
             tiles,

@@ -1,24 +1,24 @@
 // `plate`: a log on standard input; the picture at its end on standard output, 224 lines of 256 words, or the first refused line alone.
-// What is written stands in the contracts of `log`, and the reading and writing in `reader`.
+// What is written stands in the contracts of `log`, and the reading and writing in `log_reader`.
 ghost use mathlib.Core.Path.{_≡_};
 ghost use Prim.Native.Nat.{_≤_};
 ghost use lib.ListN.{length};
 ghost use Rattle.layout.specs.Valid.{Valid};
 ghost use Rattle.layout.specs.Block.{load};
 ghost use Rattle.picture.specs.Tables.{TablesOf};
-ghost use Rattle.drawn.specs.Drawn.{partsOf};
+ghost use Rattle.block_picture.specs.Drawn.{partsOf};
 ghost use Rattle.log.specs.Steps.{desk};
-ghost use Rattle.reader.specs.Fed.{Sized, chunkBytes, outBytes};
-use reader::Fed;
-use reader::State;
+ghost use Rattle.log_reader.specs.Fed.{Sized, chunkBytes, outBytes};
+use log_reader::Fed;
+use log_reader::State;
 
 fn main() {
     let mut block = [0u8; parts::BLOCK];
-    let mut line = [0u8; line::LINE_DIGITS];
+    let mut line = [0u8; log_line::LINE_DIGITS];
     let mut bytes = [0u8; parts::CAPTURE_BYTES];
     let mut command = [0u8; parts::STORE_BYTES];
-    let mut out = [0u8; reader::OUT_BYTES];
-    let mut chunk = [0u8; reader::CHUNK_BYTES];
+    let mut out = [0u8; log_reader::OUT_BYTES];
+    let mut chunk = [0u8; log_reader::CHUNK_BYTES];
     plate(
         &mut block,
         &mut line,
@@ -40,7 +40,7 @@ fn plate(
     requires { ⌜ Sized (desk (now block) (now line) (now bytes) (now command)) ⌝ }
     requires { ⌜ (length (now out) ≡ outBytes) × (length (now chunk) ≡ chunkBytes) ⌝ }
 {
-    let f = reader::read_log(block, line, bytes, command, out, chunk, true);
+    let f = log_reader::read_log(block, line, bytes, command, out, chunk, true);
     print(f, block, out);
 }
 
@@ -55,8 +55,8 @@ fn print(fed: Fed, block: &[u8], out: &mut [u8])
         State::Ended => picture(block, out),
         State::Failed => {}
         State::Refused => {
-            let n = text::refusal_line(fed.reading.number - 1, out, 0);
-            reader::write_out(&out[0..n]);
+            let n = log_text::refusal_line(fed.reading.number - 1, out, 0);
+            log_reader::write_out(&out[0..n]);
         }
     }
 }
@@ -68,7 +68,7 @@ fn picture(block: &[u8], out: &mut [u8])
     let mut spreads = [0u32; 512];
     let mut border = [0u16; 48];
     let mut game = [0u16; 16];
-    drawn::tables(block, &mut spreads, &mut border, &mut game);
+    block_picture::tables(block, &mut spreads, &mut border, &mut game);
     let mut words = [0u16; 256];
     rows(block, &spreads, &border, &game, &mut words, out);
 }
@@ -88,7 +88,7 @@ fn rows(
     let mut y: usize = 0;
     while y < 224 {
         log::row_line(block, spreads, border, game, y, words, out);
-        if !reader::write_out(&out[0..1025]) {
+        if !log_reader::write_out(&out[0..1025]) {
             return;
         }
         y += 1;

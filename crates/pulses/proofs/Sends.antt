@@ -9,8 +9,8 @@ use lib.Seq.{length-take-le, take-at}
 use borrow.Author.Tests.{ltb-false}
 use Rattle.parts.specs.Parts.{storeBytes}
 use Rattle.receiver.specs.Port.{Port, Heard, told, heard}
-use Rattle.run.specs.Run.{Ended, runs, resumed, Ready}
-use Rattle.run.proofs.Hears.{hears, complete, ready-runs}
+use Rattle.receiver_run.specs.Run.{Ended, runs, resumed, Ready}
+use Rattle.receiver_run.proofs.Hears.{hears, complete, ready-runs}
 use Rattle.pulses.specs.Bytes.{Bytes, packetsIn, malformed, commandPackets}
 use Rattle.pulses.specs.Encode.{pulsesOf, short, encoded}
 use Rattle.pulses.specs.Trip.{NoneHeld, Returned, resting}

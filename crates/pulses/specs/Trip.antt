@@ -10,7 +10,7 @@ use Rattle.receiver.specs.declared.Stage.{Stage}
 use Rattle.receiver.specs.declared.Stage.the-variants.{Idle, Receiving, Awaiting}
 use Rattle.receiver.specs.Receive.{Rx, idle}
 use Rattle.receiver.specs.Port.{Port}
-use Rattle.run.specs.Run.{Ended}
+use Rattle.receiver_run.specs.Run.{Ended}
 
 -- no earlier packet is held: idle, or receiving with received 0, at any bit index
 abbrev pub NoneHeldAt : Stage → Rx → Type 0

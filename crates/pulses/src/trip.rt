@@ -3,15 +3,15 @@ ghost use mathlib.Core.Path.{_≡_};
 ghost use mathlib.Core.Bool.{false};
 ghost use lib.ListN.{length};
 ghost use Rattle.receiver.specs.Receive.{rxOf};
-ghost use Rattle.run.specs.Run.{portOf, endedOf, Ready};
+ghost use Rattle.receiver_run.specs.Run.{portOf, endedOf, Ready};
 ghost use Rattle.pulses.specs.Bytes.{malformed};
 ghost use Rattle.pulses.specs.Encode.{short};
 ghost use Rattle.pulses.specs.Trip.{NoneHeld, Returned};
 use crate::encode;
 use crate::packets_of;
 use receiver::Receiver;
-use run::Lines;
-use run::Ran;
+use receiver_run::Lines;
+use receiver_run::Ran;
 
 // Sends a command that the encoder takes to a receiver that holds no earlier packet: its pulses are written into `out` and run
 // through the receiver. The command comes back in `store`.
@@ -29,5 +29,5 @@ pub fn send(
 {
     encode(command, out);
     let n = 260 * packets_of(command);
-    run::run(rx, lines, mask, &out[0..n], store)
+    receiver_run::run(rx, lines, mask, &out[0..n], store)
 }

@@ -15,7 +15,7 @@ use Rattle.layout.specs.Fresh.{new, postBoot}
 use Rattle.layout.specs.Valid.{Valid}
 use Rattle.rules.specs.Write.{written, answer}
 use Rattle.rules.specs.Screen.{screened, landing}
-use Rattle.port.specs.Bytes.{handed}
+use Rattle.block_write.specs.Bytes.{handed}
 use Rattle.view.proofs.Refusals.{answers, keeps, draws}
 use Rattle.unit.specs.Calls.{counted, writeAnswer, writeBlock, writeCommand, screenAnswer, screenBlock, freshAnswer, newBlock, postBootBlock}
 

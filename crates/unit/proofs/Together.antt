@@ -23,7 +23,7 @@ use Rattle.order.specs.Log.{Event, write, screen, accepts, Seen, seen, Aligned}
 use Rattle.order.specs.Log as log
 use Rattle.order.specs.Blocks.{Called, calledWrite, calledScreen, writtenBlock, seenBlock, calls}
 use Rattle.order.proofs.BlockOrder.{block-order}
-use Rattle.port.specs.Bytes.{handed}
+use Rattle.block_write.specs.Bytes.{handed}
 use Rattle.view.specs.Looks.{leaves}
 use Rattle.view.proofs.Refusals.{answers}
 use Rattle.unit.specs.Calls.{counted, writeAnswer, writeBlock, writeCommand, screenAnswer, screenBlock}

@@ -18,8 +18,8 @@ use Rattle.layout.proofs.Goods.{valid-good, good-back, saved-valid}
 use Rattle.rules.specs.Carry.{plainly, carriedGame, carriedSnes, carried}
 use Rattle.rules.specs.Write.{meant, carries, stepped, written, answer}
 use Rattle.rules.proofs.Keeps.{WholeIf, complete-whole, answered-whole, good-stepped}
-use Rattle.port.specs.Bytes.{handed, packetsIn}
-use Rattle.carry.specs.Carrying.{carriedBlock}
+use Rattle.block_write.specs.Bytes.{handed, packetsIn}
+use Rattle.block_command.specs.Carrying.{carriedBlock}
 use Rattle.unit.specs.Calls.{counted}
 
 -- ---- the command that is complete, or none

@@ -14,7 +14,7 @@ use Rattle.layout.specs.Block.{load, save}
 use Rattle.layout.specs.Fresh.{new, postBoot}
 use Rattle.rules.specs.Write.{written, answer}
 use Rattle.rules.specs.Screen.{screened, landing}
-use Rattle.port.specs.Bytes.{handed, packetsIn}
+use Rattle.block_write.specs.Bytes.{handed, packetsIn}
 use Rattle.view.specs.Refusal.{refusing}
 use Rattle.view.specs.Looks.{leaves}
 

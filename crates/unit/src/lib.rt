@@ -11,8 +11,8 @@ ghost use Rattle.layout.specs.Block.{load, save};
 ghost use Rattle.layout.specs.Valid.{Valid};
 ghost use Rattle.rules.specs.Write.{written, answer};
 ghost use Rattle.view.specs.Refusal.{refusalOf};
-ghost use Rattle.port.specs.Bytes.{handed, packetsIn};
-ghost use Rattle.carry.specs.Carrying.{carriedBlock};
+ghost use Rattle.block_write.specs.Bytes.{handed, packetsIn};
+ghost use Rattle.block_command.specs.Carrying.{carriedBlock};
 ghost use Rattle.unit.specs.Calls.{writeAnswer, writeBlock, writeCommand, screenAnswer, screenBlock, freshAnswer, newBlock, postBootBlock};
 ghost use Rattle.unit.specs.Answers.{writtenTold, shownTold};
 use transfer::pending::Landed;
@@ -57,7 +57,7 @@ pub fn write(block: &mut [u8], value: u8, command: &mut [u8]) -> u8
     ensures { λ _. ⌜ now (block .exit) ≡ save (written (load (now (block .entry))) value) ⌝ }
     ensures { λ _. ⌜ now (command .exit) ≡ handed (answer (load (now (block .entry))) value) (now (command .entry)) ⌝ }
 {
-    let n = port::write_port(block, value, command);
+    let n = block_write::write_port(block, value, command);
     if n == 0 {
         return 0;
     }
@@ -71,7 +71,7 @@ pub fn carry(block: &mut [u8], command: &[u8], n: u8)
     ensures { λ _. ⌜ now (block .exit) ≡ carriedBlock (decode (take (16 * n) (now (command .entry)))) (now (block .entry)) ⌝ }
 {
     let end = 16 * bits::wide(n);
-    carry::carry_out(block, &command[0..end]);
+    block_command::carry_out(block, &command[0..end]);
 }
 
 // A screen: it becomes the live capture, and a transfer that is due lands.
@@ -86,7 +86,7 @@ pub fn update_screen(block: &mut [u8], screen: &[u8]) -> Shown
     if screen.len() != parts::CAPTURE_BYTES {
         return Shown::Refused(3);
     }
-    Shown::Took(show::show(block, screen))
+    Shown::Took(block_screen::show(block, screen))
 }
 
 // The fresh blocks answer 1 for a block of another length, and else 0.
@@ -97,7 +97,7 @@ pub fn new(block: &mut [u8]) -> u8
     if block.len() != parts::BLOCK {
         return 1;
     }
-    fresh::new(block);
+    block_fresh::new(block);
     0
 }
 
@@ -108,7 +108,7 @@ pub fn post_boot(block: &mut [u8]) -> u8
     if block.len() != parts::BLOCK {
         return 1;
     }
-    fresh::post_boot(block);
+    block_fresh::post_boot(block);
     0
 }
 

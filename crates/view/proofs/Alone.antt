@@ -17,7 +17,7 @@ use Rattle.parts.specs.Parts.{blockBytes}
 use Rattle.layout.specs.Block.{load}
 use Rattle.layout.specs.Valid.{valid}
 use Rattle.view.specs.Refusal.{refusing}
-use Rattle.drawn.specs.Drawn.{partsOf, rowDrawn, pictureDrawn}
+use Rattle.block_picture.specs.Drawn.{partsOf, rowDrawn, pictureDrawn}
 use Rattle.view.specs.Looks.{rowAnswer, pictureAnswer, leaves}
 use Rattle.view.proofs.Refusals.{draws}
 

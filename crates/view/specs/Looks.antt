@@ -10,7 +10,7 @@ use lib.ListN.{length}
 use Rattle.pulses.specs.Answer.{Answer, refused, given}
 use Rattle.border.specs.Border.{entryAt}
 use Rattle.layout.specs.Block.{load}
-use Rattle.drawn.specs.Drawn.{partsOf, backdropIn, shadeIn, borderIn}
+use Rattle.block_picture.specs.Drawn.{partsOf, backdropIn, shadeIn, borderIn}
 use Rattle.view.specs.Refusal.{refusing}
 
 unfoldable pub modeOf : List ℕ → Answer ℕ

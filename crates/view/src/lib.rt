@@ -1,12 +1,12 @@
 // The public calls that only look at a block. Document 01, Refusals by number, and Screens, border and picture.
 // None asks anything of its caller: a block of another length is refused (1), one that is not valid (2), then what is asked (4, 6).
 // A refusal changes no lent byte. The meaning is in specs/Looks, with the refusals inside. Each call tests, and then asks a worker of
-// `drawn`, which takes a valid block and refuses nothing; whoever looks at one block many times asks `refusal` once and then the workers.
+// `block_picture`, which takes a valid block and refuses nothing; whoever looks at one block many times asks `refusal` once and then the workers.
 ghost use mathlib.Core.Path.{_≡_};
 ghost use Rattle.pulses.specs.Answer.{given};
 ghost use Rattle.border.specs.Border.{colourOf};
 ghost use Rattle.view.specs.Refusal.{refusalOf};
-ghost use Rattle.drawn.specs.Drawn.{rowDrawn, pictureDrawn};
+ghost use Rattle.block_picture.specs.Drawn.{rowDrawn, pictureDrawn};
 ghost use Rattle.view.specs.Looks.{modeOf, backdropAnswer, shadeAnswer, entryAnswer, borderAnswer, rowAnswer, pictureAnswer, leaves};
 ghost use Rattle.view.specs.Answers.{numberTold, colourTold, entryTold, borderTold};
 use border::BorderColor;
@@ -42,7 +42,7 @@ pub fn refusal(block: &[u8]) -> u8
     if block.len() != parts::BLOCK {
         return 1;
     }
-    if valid::valid(block) { 0 } else { 2 }
+    if block_valid::valid(block) { 0 } else { 2 }
 }
 
 pub fn mask_mode(block: &[u8]) -> Number
@@ -52,7 +52,7 @@ pub fn mask_mode(block: &[u8]) -> Number
     if no != 0 {
         return Number::Refused(no);
     }
-    Number::Is(bits::wide(drawn::of_block::mode(block)))
+    Number::Is(bits::wide(block_picture::of_block::mode(block)))
 }
 
 // The colour of everything that nothing covers.
@@ -63,7 +63,7 @@ pub fn backdrop(block: &[u8]) -> Colour
     if no != 0 {
         return Colour::Refused(no);
     }
-    Colour::Is(drawn::backdrop(block))
+    Colour::Is(block_picture::backdrop(block))
 }
 
 // The colour of a shade at column x of row y of the screen. It doesn't look at the mask.
@@ -83,7 +83,7 @@ pub fn color_at(block: &[u8], x: usize, y: usize, shade: u8) -> Colour
     if shade > 3 {
         return Colour::Refused(4);
     }
-    Colour::Is(drawn::shade(block, x, y, shade))
+    Colour::Is(block_picture::shade(block, x, y, shade))
 }
 
 // The border's map word at a column of a row.
@@ -100,7 +100,7 @@ pub fn map_entry(block: &[u8], column: usize, row: usize) -> Entry
     if row >= 28 {
         return Entry::Refused(4);
     }
-    Entry::Is(drawn::entry(block, column, row))
+    Entry::Is(block_picture::entry(block, column, row))
 }
 
 // The border's colour at column x of row y of the picture.
@@ -117,7 +117,7 @@ pub fn border_color_at(block: &[u8], x: usize, y: usize) -> Border
     if y >= 224 {
         return Border::Refused(4);
     }
-    shown_of(drawn::border(block, x, y))
+    shown_of(block_picture::border(block, x, y))
 }
 
 fn shown_of(color: BorderColor) -> Border
@@ -144,7 +144,7 @@ pub fn row(block: &[u8], y: usize, out: &mut [u16]) -> Number
     if out.len() < 256 {
         return Number::Refused(6);
     }
-    drawn::draw_row(block, y, out);
+    block_picture::draw_row(block, y, out);
     Number::Is(256)
 }
 
@@ -160,6 +160,6 @@ pub fn picture(block: &[u8], out: &mut [u16]) -> Number
     if out.len() < 57344 {
         return Number::Refused(6);
     }
-    drawn::draw_picture(block, out);
+    block_picture::draw_picture(block, out);
     Number::Is(57344)
 }

@@ -3,7 +3,7 @@
 use crate::ctx::Ctx;
 use crate::stored;
 
-const STORED: &str = include_str!("../../../crates/stored/stdout");
+const STORED: &str = include_str!("../../../crates/test_stored/stdout");
 
 pub fn run(ctx: &mut Ctx) {
     let (list, tally) = stored::list();

@@ -3,9 +3,9 @@ use denote.Ref.{now}
 use mathlib.Core.Path.{refl, ap, _∙_, subst⁻¹}
 use Prim.Native.Nat.{_≤_}
 use lib.ListN.{length}
-use Rattle.line.specs.Line.{lineDigits}
-use Rattle.line.specs.declared.lines.Taken.{Taken}
-use Rattle.line.proofs.Splitting.{length-took}
+use Rattle.log_line.specs.Line.{lineDigits}
+use Rattle.log_line.specs.declared.lines.Taken.{Taken}
+use Rattle.log_line.proofs.Splitting.{length-took}
 use native.Mathlib.Omega.{arith}
 use Rattle.log.proofs.Stepping.{step-played, step-ended, step-held, taken-fits}
 use borrow.Author.Needs.{needs}

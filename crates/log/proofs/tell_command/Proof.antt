@@ -5,7 +5,7 @@ use Prim.Native.Nat.{ℕ, _*_, _-_}
 use native.Mathlib.Omega.{arith}
 use lib.ListN.{length, take}
 use Rattle.bits.specs.Over.{over}
-use Rattle.text.specs.Text.{hexLine}
+use Rattle.log_text.specs.Text.{hexLine}
 use Rattle.log.proofs.Coded.{hex-short}
 use borrow.Author.Needs.{needs}
 use Rattle.log.proofs.tell_command.Statement.{statement}

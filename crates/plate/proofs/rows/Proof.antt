@@ -3,7 +3,7 @@ use mathlib.Core.Path.{_≡_, _∙_}
 use Prim.Native.Nat.{_-_, _≤_}
 use native.Mathlib.Omega.{arith}
 use lib.ListN.{length}
-use Rattle.reader.specs.Fed.{outBytes}
+use Rattle.log_reader.specs.Fed.{outBytes}
 use Rattle.plate.proofs.rows.Statement.{statement}
 use Rattle.plate.proofs.rows.Tie as tie
 

@@ -6,7 +6,7 @@ use borrow.Author.Needs.{needs}
 use lib.ListN.{take}
 use Rattle.attributes.specs.Data.{Whole}
 use Rattle.commands.specs.Command.{decode}
-use Rattle.carry.specs.Carrying.{carriedBlock}
+use Rattle.block_command.specs.Carrying.{carriedBlock}
 use Rattle.unit.proofs.carry.Statement.{statement}
 use Rattle.unit.proofs.carry.Tie as tie
 

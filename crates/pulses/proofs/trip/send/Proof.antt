@@ -2,7 +2,7 @@
 use borrow.Author.Needs.{needs}
 use Prim.Native.Nat.{_*_, _-_}
 use native.Mathlib.Omega.{arith}
-use Rattle.run.specs.Run.{portOf, endedOf}
+use Rattle.receiver_run.specs.Run.{portOf, endedOf}
 use Rattle.pulses.proofs.Commands.{packets-few}
 use Rattle.pulses.proofs.Sends.{bytes-of, comes-back, front-of, room}
 use Rattle.pulses.proofs.trip.send.Statement.{statement}

@@ -1,0 +1,74 @@
+// The lines that the programs print: a command, a refusal, a row of the picture. Document 01, Pulses, verdict, log. Nothing here
+// writes to anywhere but the lent text; the meaning is in specs/Text.
+ghost use mathlib.Core.Path.{_≡_};
+ghost use Prim.Native.Nat.{_+_, _*_, _≤_};
+ghost use lib.ListN.{length};
+ghost use Rattle.bits.specs.Over.{over};
+ghost use Rattle.log_text.specs.Text.{hexLine, refusalOf, refusalText, wordText, rowLine};
+use bits::high_byte;
+use bits::low_byte;
+use bits::put;
+use hex::spell;
+use hex::spell_byte;
+
+// Bytes in upper-case hexadecimal, and LF, from `at` on. Answers the text's length.
+pub fn command_line(command: &[u8], out: &mut [u8], at: usize) -> usize
+    requires { ⌜ at + 2 * length (now command) + 1 ≤ length (now out) ⌝ }
+    ensures { λ r. ⌜ r ≡ length (hexLine (now (command .entry))) ⌝ }
+    ensures { λ r. ⌜ now (out .exit) ≡ over at (length (hexLine (now (command .entry)))) (hexLine (now (command .entry))) (now (out .entry)) ⌝ }
+{
+    let n = 2 * command.len();
+    spell(command, out, at);
+    out[at + n] = 10;
+    n + 1
+}
+
+// `line N: 7` and LF, from `at` on. Answers the text's length.
+pub fn refusal_line(number: u64, out: &mut [u8], at: usize) -> usize
+    requires { ⌜ at + 29 ≤ length (now out) ⌝ }
+    ensures { λ r. ⌜ r ≡ length (refusalText number) ⌝ }
+    ensures { λ r. ⌜ r ≤ 29 ⌝ }
+    ensures { λ r. ⌜ now (out .exit) ≡ over at (length (refusalText number)) (refusalText number) (now (out .entry)) ⌝ }
+{
+    let mut digits = [0u8; 20];
+    let k = io::decimal(number, &mut digits);
+    refusal_of(&digits[0..k], out, at)
+}
+
+// `line `, the digits, `: 7` and LF.
+fn refusal_of(digits: &[u8], out: &mut [u8], at: usize) -> usize
+    requires { ⌜ length (now digits) ≤ 20 ⌝ }
+    requires { ⌜ at + 29 ≤ length (now out) ⌝ }
+    ensures { λ r. ⌜ r ≡ length (refusalOf (now (digits .entry))) ⌝ }
+    ensures { λ r. ⌜ r ≤ 29 ⌝ }
+    ensures { λ r. ⌜ now (out .exit) ≡ over at (length (refusalOf (now (digits .entry)))) (refusalOf (now (digits .entry))) (now (out .entry)) ⌝ }
+{
+    let n = digits.len();
+    put(out, at, b"line ");
+    put(out, at + 5, digits);
+    put(out, at + 5 + n, b": 7\n");
+    n + 9
+}
+
+// A row of the picture, at the front: 256 words with nothing between, and LF.
+pub fn row_line(words: &[u16], out: &mut [u8])
+    requires { ⌜ length (now words) ≡ 256 ⌝ }
+    requires { ⌜ 1025 ≤ length (now out) ⌝ }
+    ensures { λ _. ⌜ now (out .exit) ≡ over 0 (length (rowLine (now (words .entry)))) (rowLine (now (words .entry))) (now (out .entry)) ⌝ }
+{
+    let mut i: usize = 0;
+    while i < 256 {
+        spell_word(words[i], out, 4 * i);
+        i += 1;
+    }
+    out[1024] = 10;
+}
+
+// One word's four digits.
+fn spell_word(w: u16, out: &mut [u8], at: usize)
+    requires { ⌜ at + 4 ≤ length (now out) ⌝ }
+    ensures { λ _. ⌜ now (out .exit) ≡ over at 4 (wordText w) (now (out .entry)) ⌝ }
+{
+    spell_byte(high_byte(w), out, at);
+    spell_byte(low_byte(w), out, at + 2);
+}

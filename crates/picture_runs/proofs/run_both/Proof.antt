@@ -1,0 +1,100 @@
+-- Each turn writes the next pixel, from its lane and its shade.
+use Prim.Native.Nat.{ℕ, _+_, _-_, _≤_}
+use mathlib.Core.Path.{_≡_, refl, ap₂, _∙_}
+use native.Mathlib.Omega.{arith}
+use lib.ListN.{length, length-set, getD}
+use Rattle.bits.specs.Paint.{Painted}
+use Rattle.bits.proofs.Painting.{painted-none, painted-turn, painted-count}
+use Rattle.picture_runs.specs.Runs.{shadeIn, runPixel}
+use Rattle.picture_lanes.specs.Lanes.{lane}
+use Rattle.picture_runs.proofs.run_both.Statement.{statement}
+use Rattle.picture_runs.proofs.run_both.Tie as tie
+
+abbrev Inv-loop : tie.InvT-loop
+Inv-loop out₀ at l border base s game n j₀ out j = (j ≤ 8) × (length out ≡ length out₀) × Painted out out₀ at j (λ i. runPixel (lane l i) border base (getD game (n + shadeIn s i) 0))
+
+abbrev μ-loop : tie.MeasureT-loop
+μ-loop out₀ at l border base s game n j₀ out j = 8 - j
+
+loop-holds : tie.Need-loop-holds Inv-loop μ-loop
+loop-holds c = (omega arith, refl, painted-none)
+
+nibble-requires : tie.Need-nibble-requires Inv-loop μ-loop
+nibble-requires c κs = omega arith
+
+shade-requires : tie.Need-shade-requires Inv-loop μ-loop
+shade-requires c κs = omega arith
+
+add-over : tie.Need-add-over Inv-loop μ-loop
+add-over c = omega arith
+
+mul-over : tie.Need-mul-over Inv-loop μ-loop
+mul-over c = omega arith
+
+shared-slice-read-over : tie.Need-shared-slice-read-over Inv-loop μ-loop
+shared-slice-read-over c = omega arith
+
+add-over-2 : tie.Need-add-over-2 Inv-loop μ-loop
+add-over-2 c = omega arith
+
+mul-over-2 : tie.Need-mul-over-2 Inv-loop μ-loop
+mul-over-2 c = omega arith
+
+shared-slice-read-over-2 : tie.Need-shared-slice-read-over-2 Inv-loop μ-loop
+shared-slice-read-over-2 c = omega arith
+
+over-requires : tie.Need-over-requires Inv-loop μ-loop
+over-requires c κs = omega arith
+
+add-out : tie.Need-add-out Inv-loop μ-loop
+add-out c = omega arith
+
+mul-out : tie.Need-mul-out Inv-loop μ-loop
+mul-out c = omega arith
+
+slice-write-out : tie.Need-slice-write-out Inv-loop μ-loop
+slice-write-out c = omega arith
+
+add-j : tie.Need-add-j Inv-loop μ-loop
+add-j c = omega arith
+
+loop-less : tie.Need-loop-less Inv-loop μ-loop
+loop-less c = omega arith
+
+loop-again : tie.Need-loop-again Inv-loop μ-loop
+loop-again c =
+    let l = c .before .before .before .before .before .before .loop in
+    let a = c .before .before .before .before .before .before .before .before .before .before .args in
+    let seen = c .over .ensures ∙ ap₂ (λ (i h : ℕ). runPixel i (a .border .now) (a .base) (getD (a .game .now) (a .n + h) 0)) (c .before .before .before .before .nibble .ensures .0) (c .before .before .before .shade .ensures .0) in
+    (omega arith, simp length-set (l .inv .1), painted-turn (l .inv .2) _ _ refl seen)
+
+same-length : tie.Need-same-length Inv-loop μ-loop
+same-length c = c .before .loop .inv .1
+
+returns : tie.Need-returns Inv-loop μ-loop
+returns c = painted-count (c .before .loop .inv .2) 8 (omega arith)
+
+pub run-both-spec : {M : Type 1} → statement M
+run-both-spec =
+    tie.close
+    (tie.spec
+    Inv-loop
+    μ-loop
+    loop-holds
+    nibble-requires
+    shade-requires
+    add-over
+    mul-over
+    shared-slice-read-over
+    add-over-2
+    mul-over-2
+    shared-slice-read-over-2
+    over-requires
+    add-out
+    mul-out
+    slice-write-out
+    add-j
+    loop-less
+    loop-again
+    same-length
+    returns)

@@ -1,0 +1,60 @@
+-- Each turn writes the next pixel.
+use Prim.Native.Nat.{_-_, _≤_}
+use mathlib.Core.Path.{_≡_, refl}
+use native.Mathlib.Omega.{arith}
+use lib.ListN.{length, length-set}
+use Rattle.bits.specs.Paint.{Painted}
+use Rattle.bits.proofs.Painting.{painted-none, painted-turn, painted-count}
+use Rattle.picture_runs.proofs.run_plain.Statement.{statement}
+use Rattle.picture_runs.proofs.run_plain.Tie as tie
+
+abbrev Inv-loop : tie.InvT-loop
+Inv-loop out₀ at color j₀ out j = (j ≤ 8) × (length out ≡ length out₀) × Painted out out₀ at j (λ i. color)
+
+abbrev μ-loop : tie.MeasureT-loop
+μ-loop out₀ at color j₀ out j = 8 - j
+
+loop-holds : tie.Need-loop-holds Inv-loop μ-loop
+loop-holds c = (omega arith, refl, painted-none)
+
+add-out : tie.Need-add-out Inv-loop μ-loop
+add-out c = omega arith
+
+mul-out : tie.Need-mul-out Inv-loop μ-loop
+mul-out c = omega arith
+
+slice-write-out : tie.Need-slice-write-out Inv-loop μ-loop
+slice-write-out c = omega arith
+
+add-j : tie.Need-add-j Inv-loop μ-loop
+add-j c = omega arith
+
+loop-less : tie.Need-loop-less Inv-loop μ-loop
+loop-less c = omega arith
+
+loop-again : tie.Need-loop-again Inv-loop μ-loop
+loop-again c =
+    let l = c .before .loop in
+    (omega arith, simp length-set (l .inv .1), painted-turn (l .inv .2) _ _ refl refl)
+
+same-length : tie.Need-same-length Inv-loop μ-loop
+same-length c = c .before .loop .inv .1
+
+returns : tie.Need-returns Inv-loop μ-loop
+returns c = painted-count (c .before .loop .inv .2) 8 (omega arith)
+
+pub run-plain-spec : {M : Type 1} → statement M
+run-plain-spec =
+    tie.close
+    (tie.spec
+    Inv-loop
+    μ-loop
+    loop-holds
+    add-out
+    mul-out
+    slice-write-out
+    add-j
+    loop-less
+    loop-again
+    same-length
+    returns)
