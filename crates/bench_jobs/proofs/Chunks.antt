@@ -14,7 +14,7 @@ use Rattle.log_reader.proofs.Feeding.{Turn, filled-turn, filled-less}
 pub record Stands (size room : ℕ) (r : Reading) (d : Desk) (at n : ℕ) : Type 0 where
   pub fit : Fit r d
   pub within : at ≤ size
-  pub counted : r .number ≤ 1 + at
+  pub numbered : r .number ≤ 1 + at
   pub roomy : n ≤ room
 
 -- a part that is lent has the length that was asked for
@@ -32,7 +32,7 @@ left-before r size at m h l = omega (arith, h, l)
 
 module _ (size room : ℕ) (r : Reading) (d : Desk) (at n : ℕ) (chunk out : List ℕ) (g : Filled) (e : Desk) (out′ : List ℕ) (s : Stands size room r d at n) (f : Full r d chunk 0 out g e out′) (long : at + length chunk ≤ size) where
   begun : Turn r chunk r d 0
-  begun = record { fit = s .fit; within = omega arith; counted = omega arith }
+  begun = record { fit = s .fit; within = omega arith; numbered = omega arith }
 
   ended : Turn r chunk (g .reading) e (g .at)
   ended = filled-turn r r d chunk 0 out g e out′ begun f
@@ -44,7 +44,7 @@ module _ (size room : ℕ) (r : Reading) (d : Desk) (at n : ℕ) (chunk out : Li
   stands-on m h i = record {
     fit = ended .fit;
     within = ends-within;
-    counted = omega (arith, ended .counted, s .counted);
+    numbered = omega (arith, ended .numbered, s .numbered);
     roomy = omega (arith, f .fits, h, i);
   }
 

@@ -23,7 +23,7 @@ use Rattle.transfer.specs.declared.pending.Transfer.{Transfer}
 use Rattle.layout.specs.Block.{load, save, isHeld, heldBytes}
 use Rattle.layout.proofs.Goods.{valid-good}
 use Rattle.layout.proofs.Saved.{clauses, save-load, long-part}
-use Rattle.rules.specs.Carry.{withPalettes, withMap, withMask, withoutMask, plainly, fixedly, sent, carriedGame, carriedSnes, carried}
+use Rattle.rules.specs.Carry.{withPalettes, withMap, withMask, withoutMask, plainly, fixedly, fixedSnes, carriedGame, carriedSnes, carried}
 use Rattle.block_command.specs.Carrying.{Valid, carriedBlock, changed, changedBlock, presetEnded}
 use Rattle.block_command.proofs.Steps.{map-put, pads-put, mask-put, mode-put, palettes-left, palettes-put, pending-put}
 
@@ -73,7 +73,7 @@ module _ (b : List ℕ) (v : Valid b) where
   -- ---- fixed commands, and the steps of PAL_SET and ATTR_SET
 
   pub frozen-put : (shot last : List ℕ) → shot ≡ part liveAt captureBytes b → last ≡ over frozenAt (length shot) shot (set (set b maskAt 1) frozenOnAt 1) → last ≡ carriedBlock (fixed freeze) b
-  unfolding carriedBlock carried carriedGame carriedSnes fixedly sent isHeld heldBytes load
+  unfolding carriedBlock carried carriedGame carriedSnes fixedly fixedSnes isHeld heldBytes load
   frozen-put shot last p q =
       let n : length (part liveAt captureBytes b) ≡ captureBytes = long-part b (v .long) liveAt captureBytes (lit≤ tt) in
       q
@@ -88,7 +88,7 @@ module _ (b : List ℕ) (v : Valid b) where
       ap length q ∙ length-over frozenAt (length shot) shot (set (set b maskAt 1) frozenOnAt 1) (omega (arith, v .long)) refl ∙ e
 
   pub sent-put : (t : Transfer) (k : ℕ) → k ≡ numberOf t → set (set b countdownAt 3) kindAt k ≡ carriedBlock (fixed (transfer t)) b
-  unfolding carriedBlock carried carriedGame carriedSnes fixedly sent countdownOf kindOf
+  unfolding carriedBlock carried carriedGame carriedSnes fixedly fixedSnes countdownOf kindOf
   sent-put t k q = ap (λ (n : ℕ). set (set b countdownAt 3) kindAt n) q ∙ pending-put b v (In 3 t)
 
   pub palettes-taken : (d e ys last : List ℕ) → e ≡ presetEnded b → ys ≡ palette.palSet d (part systemAt systemBytes b) → last ≡ over palettesAt (length ys) ys e

@@ -24,7 +24,7 @@ use Rattle.layout.specs.Block.{load, save}
 use Rattle.layout.specs.Good.{Good, GoodGame, GoodSnes}
 use Rattle.layout.specs.Sgb.{Sgb, Game, Snes}
 use Rattle.layout.proofs.Goods.{valid-good, good-back, saved-valid}
-use Rattle.rules.specs.Carry.{withPalettes, withMap, withoutMask, fixedly, sent, carriedGame, carriedSnes, carried}
+use Rattle.rules.specs.Carry.{withPalettes, withMap, withoutMask, fixedly, fixedSnes, carriedGame, carriedSnes, carried}
 use Rattle.rules.proofs.Commands.{palettes-good, map-good}
 use Rattle.block_command.specs.Carrying.{Valid, carriedBlock, changed, changedBlock}
 
@@ -82,7 +82,7 @@ pal-set-done b v d e₁ e₂ e₃ p q r =
     r
     ∙ ap (changedBlock (unmasking flags)) (q ∙ ap (changedBlock file) p ∙ changed-again pal file (taking-kept d) b v)
     ∙ changed-again (λ s g. file s (pal s g)) (unmasking flags) kept b v
-    ∙ (unfold changedBlock carriedBlock carried carriedGame carriedSnes fixedly sent withPalettes in refl)
+    ∙ (unfold changedBlock carriedBlock carried carriedGame carriedSnes fixedly fixedSnes withPalettes in refl)
 
 pub attr-set-done : (b : List ℕ) → Valid b → (d e₁ e₂ : List ℕ) → e₁ ≡ changedBlock (filing (attrSetMap (getD d 1 0))) b
     → e₂ ≡ changedBlock (unmasking (getD d 1 0)) e₁ → e₂ ≡ carriedBlock (fixed (attrSet d)) b
@@ -92,7 +92,7 @@ attr-set-done b v d e₁ e₂ p q =
     q
     ∙ ap (changedBlock (unmasking flags)) p
     ∙ changed-again file (unmasking flags) (filing-kept (attrSetMap flags) (set-long flags)) b v
-    ∙ (unfold changedBlock carriedBlock carried carriedGame carriedSnes fixedly sent in refl)
+    ∙ (unfold changedBlock carriedBlock carried carriedGame carriedSnes fixedly fixedSnes in refl)
 
 -- ---- the decoded command
 

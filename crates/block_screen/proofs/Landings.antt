@@ -32,10 +32,10 @@ use Rattle.block_screen.specs.Shown.{withSnes, snesBlock, countedDown}
 -- ---- the two bytes
 
 -- each call's answer put in
-pub counted-down : (b : List ℕ) (p q : Pending) (n k : ℕ) → p ≡ load b .snes .pending → q ≡ pending.screened p → n ≡ countdownOf q → k ≡ kindOf q
+pub counted-down : (b : List ℕ) (p q : Pending) (n k : ℕ) → p ≡ load b .snes .pending → q ≡ pending.fallen p → n ≡ countdownOf q → k ≡ kindOf q
     → set (set b countdownAt n) kindAt k ≡ countedDown b
 counted-down b p q n k e f g h =
-    let w : q ≡ pending.screened (load b .snes .pending) = f ∙ ap pending.screened e in
+    let w : q ≡ pending.fallen (load b .snes .pending) = f ∙ ap pending.fallen e in
     (λ t. set (set b countdownAt (g t)) kindAt (h t)) ∙ ap (λ (x : Pending). set (set b countdownAt (countdownOf x)) kindAt (kindOf x)) w
 
 -- ---- the block with the unit changed in one place
@@ -48,7 +48,7 @@ module _ (b : List ℕ) (v : Valid b) where
   pub captured-put : (x e last : List ℕ) → length x ≡ captureBytes → e ≡ countedDown b → last ≡ over liveAt (length x) x e → last ≡ snesBlock (captured x) b
   unfolding snesBlock captured
   captured-put x e last l p q =
-      let left = pending.screened (load b .snes .pending) in
+      let left = pending.fallen (load b .snes .pending) in
       q
       ∙ ap (λ (n : ℕ). over liveAt n x e) l
       ∙ ap (over liveAt captureBytes x) p

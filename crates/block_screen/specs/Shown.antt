@@ -2,7 +2,7 @@
 use Prim.Native.Nat.{ℕ}
 use mathlib.Core.List.{List}
 use lib.ListN.{set}
-use Rattle.transfer.specs.Pending.{countdownOf, kindOf, screened}
+use Rattle.transfer.specs.Pending.{countdownOf, kindOf, fallen}
 use Rattle.parts.specs.Parts.{countdownAt, kindAt}
 use Rattle.layout.specs.Block.{load, save}
 use Rattle.layout.specs.Sgb.{Sgb, Snes}
@@ -16,4 +16,4 @@ snesBlock f b = save (withSnes f (load b))
 
 -- the bytes with bytes 10 and 11 as a screen leaves them
 abbrev pub countedDown : List ℕ → List ℕ
-countedDown b = set (set b countdownAt (countdownOf (screened (load b .snes .pending)))) kindAt (kindOf (screened (load b .snes .pending)))
+countedDown b = set (set b countdownAt (countdownOf (fallen (load b .snes .pending)))) kindAt (kindOf (fallen (load b .snes .pending)))

@@ -30,10 +30,10 @@ fn count_down(block: &mut [u8]) -> Landed
     ensures { λ r. ⌜ (r ≡ rules.landing (load (now (block .entry)) .snes)) × (now (block .exit) ≡ countedDown (now (block .entry))) ⌝ }
 {
     let pending = Pending::load(block[COUNTDOWN], block[KIND]);
-    let left = pending.screened();
+    let left = pending.fall();
     block[COUNTDOWN] = left.countdown();
     block[KIND] = left.kind();
-    pending.landing()
+    pending.lands()
 }
 
 // The screen becomes the live capture.

@@ -28,7 +28,7 @@ use Rattle.layout.specs.Good.{GoodGame}
 use Rattle.layout.specs.Sgb.{Sgb}
 use Rattle.layout.specs.Valid.{valid}
 use Rattle.block_packet.proofs.Halves.{put-words}
-use Rattle.block_write.specs.Bytes.{putReceiver, putLines, handed, packetsIn, taken, settled}
+use Rattle.block_write.specs.Bytes.{putReceiver, putLines, handed, packetsTold, taken, settled}
 use Rattle.rules.specs.Carry.{withPads}
 use Rattle.rules.specs.Write.{advanced, stepped, answer}
 use Rattle.receiver_run.specs.declared.Lines.{Lines}
@@ -44,13 +44,13 @@ done-handed (Packet n) s f = (refl, refl)
 done-handed (Command zero) s f = absurd (omega (arith, f .0))
 done-handed (Command (suc n)) s f = (refl, refl)
 
-pub packets-taken : (n : ℕ) (s : List ℕ) → n < 8 → length s ≡ storeBytes → n ≡ packetsIn (taken n s)
-unfolding taken packetsIn
+pub packets-taken : (n : ℕ) (s : List ℕ) → n < 8 → length s ≡ storeBytes → n ≡ packetsTold (taken n s)
+unfolding taken packetsTold
 packets-taken zero s few long = refl
 packets-taken (suc n) s few long = omega (arith, length-take (16 * suc n) s)
 
-pub packets-answered : (d : Done) (s : List ℕ) → Fits d → length s ≡ storeBytes → packetsOf d ≡ packetsIn (answerOf d s)
-packets-answered d s f l = packets-taken (packetsOf d) s (few-packets d f) l ∙ ap packetsIn (done-handed d s f .1)
+pub packets-answered : (d : Done) (s : List ℕ) → Fits d → length s ≡ storeBytes → packetsOf d ≡ packetsTold (answerOf d s)
+packets-answered d s f l = packets-taken (packetsOf d) s (few-packets d f) l ∙ ap packetsTold (done-handed d s f .1)
 
 -- the store and the buffer, where no command is complete, and where one is
 pub none-over : (n : ℕ) (s buffer : List ℕ) → n ≡ 0 → (s ≡ settled n s) × (buffer ≡ handed (taken n s) buffer)

@@ -34,9 +34,9 @@ handed none buffer = buffer
 handed (some c) buffer = c ++ drop (length c) buffer
 
 -- the packets of a command that is complete, or 0
-unfoldable pub packetsIn : Option (List ℕ) → ℕ
-packetsIn none = 0
-packetsIn (some c) = length c / 16
+unfoldable pub packetsTold : Option (List ℕ) → ℕ
+packetsTold none = 0
+packetsTold (some c) = length c / 16
 
 -- ---- a complete command of so many packets, or 0
 

@@ -10,7 +10,7 @@ ghost use Rattle.layout.specs.Valid.{valid};
 ghost use Rattle.receiver.specs.Receive.{rxOf, words};
 ghost use Rattle.receiver.specs.Store.{filed, emptied, answerOf, packetsOf, Fits};
 ghost use Rattle.rules.specs.Write.{stepped, answer};
-ghost use Rattle.block_write.specs.Bytes.{linesOf, putReceiver, putLines, handed, packetsIn, taken, settled};
+ghost use Rattle.block_write.specs.Bytes.{linesOf, putReceiver, putLines, handed, packetsTold, taken, settled};
 use bits::clear;
 use bits::put;
 use bits::wide;
@@ -30,7 +30,7 @@ use receiver_run::Lines;
 // completes nothing touches the header and the current packet alone.
 pub fn write_port(block: &mut [u8], value: u8, command: &mut [u8]) -> u8
     requires { ⌜ (valid (now block) ≡ true) × (storeBytes ≤ length (now command)) ⌝ }
-    ensures { λ r. ⌜ r ≡ packetsIn (answer (load (now (block .entry))) value) ⌝ }
+    ensures { λ r. ⌜ r ≡ packetsTold (answer (load (now (block .entry))) value) ⌝ }
     ensures { λ _. ⌜ now (block .exit) ≡ save (stepped (load (now (block .entry))) value) ⌝ }
     ensures { λ _. ⌜ now (command .exit) ≡ handed (answer (load (now (block .entry))) value) (now (command .entry)) ⌝ }
 {

@@ -29,7 +29,7 @@ use Rattle.layout.proofs.Made.{made-of}
 use Rattle.rules.specs.Carry.{withPads, carried}
 use Rattle.rules.specs.Write.{meant, answer}
 use Rattle.rules.proofs.Keeps.{WholeIf, answered-whole, good-stepped, good-written}
-use Rattle.block_write.specs.Bytes.{linesOf, putReceiver, putLines, handed, packetsIn, taken, settled}
+use Rattle.block_write.specs.Bytes.{linesOf, putReceiver, putLines, handed, packetsTold, taken, settled}
 use Rattle.block_write.proofs.Steps.{port-made, length-receiver, packets-taken}
 use Rattle.block_command.specs.Carrying.{carriedBlock}
 use Rattle.unit.proofs.Writes.{none-carried, front, front-carried}
@@ -178,15 +178,15 @@ module _ (b ws m : List ℕ) (ok : Valid b) (made : m ≡ save (ranUnit (load b)
   pub played-told : commandOf e′ ≡ played (load b) ws .told
   played-told = sym (ap (λ (p : Played). p .told) all)
 
-  told-packets : e′ .packets ≡ packetsIn (commandOf e′)
+  told-packets : e′ .packets ≡ packetsTold (commandOf e′)
   told-packets =
       let r : Ready (load b .port) (load b .game .index) (load b .game .pads) = good-ready (load b) (valid-good b (ok .tested)) in
       unfold commandOf in packets-taken (e′ .packets) (e′ .port .store)
       (unfold ranTo in complete (load b .game .pads) 0 (load b .game .index) (load b .port) ws r .few)
       (unfold ranTo in ready-runs (load b .game .pads) 0 (load b .game .index) (load b .port) ws r .long)
 
-  pub played-packets : e′ .packets ≡ packetsIn (played (load b) ws .told)
-  played-packets = told-packets ∙ ap packetsIn played-told
+  pub played-packets : e′ .packets ≡ packetsTold (played (load b) ws .told)
+  played-packets = told-packets ∙ ap packetsTold played-told
 
   -- none was complete: all is done
   pub played-none : e′ .packets ≡ 0 → m ≡ save (played (load b) ws .unit)

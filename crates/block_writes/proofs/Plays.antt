@@ -10,7 +10,7 @@ use Rattle.block_write.specs.Bytes.{taken, settled}
 use Rattle.receiver.specs.Lines.{pulseOf, indexed}
 use Rattle.receiver.specs.Port.{stepAt, filedAt, answered, wrote}
 use Rattle.receiver.specs.Store.{packetsOf}
-use Rattle.receiver.proofs.Sound.{good-written}
+use Rattle.receiver.proofs.Sound.{good-pulse}
 use Rattle.receiver_run.specs.Run.{Ended, lined, onward, runs, Ready}
 use Rattle.receiver_run.proofs.Turns.{ready-lined}
 use Rattle.receiver_run.proofs.Hears.{within, none-told, one-told}
@@ -41,7 +41,7 @@ module _ (u : Sgb) (v : ℕ) where
   pub none-written : Ready (u .port) (u .game .index) (u .game .pads) → done ≡ 0 → (answer u v ≡ none) × (written u v ≡ further u v)
   unfolding answer answered written carries meant stepped advanced wrote lined carried carriedGame carriedSnes plainly
   none-written r e =
-      let t = none-told (stepAt (u .port) v .done) (filedAt (u .port) v) (good-written (u .port .rx) (pulseOf v) (u .port .both) (r .sound) .1) e in
+      let t = none-told (stepAt (u .port) v .done) (filedAt (u .port) v) (good-pulse (u .port .rx) (pulseOf v) (u .port .both) (r .sound) .1) e in
       (t .0, ap (λ (o : Option (List ℕ)). carried (meant o) (stepped u v)) (t .0) ∙ ap with-store (t .1))
 
   pub one-written : (n : ℕ) → done ≡ suc n

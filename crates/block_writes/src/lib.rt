@@ -6,7 +6,7 @@ ghost use lib.ListN.{length};
 ghost use Rattle.parts.specs.Parts.{storeBytes};
 ghost use Rattle.layout.specs.Block.{load, save};
 ghost use Rattle.layout.specs.Valid.{Valid};
-ghost use Rattle.block_write.specs.Bytes.{handed, packetsIn};
+ghost use Rattle.block_write.specs.Bytes.{handed, packetsTold};
 ghost use Rattle.receiver_run.specs.Run.{runs, portOf, endedOf, Ready};
 ghost use Rattle.block_writes.specs.Play.{played, ranTo, ranUnit, handedOver, commandOf};
 use block_write::hand_over;
@@ -28,7 +28,7 @@ pub struct Played {
 pub fn play(block: &mut [u8], writes: &[u8], command: &mut [u8]) -> Played
     requires { ⌜ Valid (now block) × (storeBytes ≤ length (now command)) ⌝ }
     ensures { λ r. ⌜ r .at ≡ played (load (now (block .entry))) (now (writes .entry)) .at ⌝ }
-    ensures { λ r. ⌜ r .packets ≡ packetsIn (played (load (now (block .entry))) (now (writes .entry)) .told) ⌝ }
+    ensures { λ r. ⌜ r .packets ≡ packetsTold (played (load (now (block .entry))) (now (writes .entry)) .told) ⌝ }
     ensures { λ _. ⌜ now (block .exit) ≡ save (played (load (now (block .entry))) (now (writes .entry)) .unit) ⌝ }
     ensures { λ _. ⌜ now (command .exit) ≡ handed (played (load (now (block .entry))) (now (writes .entry)) .told) (now (command .entry)) ⌝ }
 {

@@ -12,8 +12,8 @@ use Rattle.commands.specs.Pads.{mltIndex}
 use Rattle.commands.specs.Command as S
 
 -- a packet of two bytes and fourteen zeros
-abbrev sent : ℕ → ℕ → List ℕ
-sent a b = a ∷ b ∷ replicate 14 0
+abbrev packetOf : ℕ → ℕ → List ℕ
+packetOf a b = a ∷ b ∷ replicate 14 0
 
 -- MLT_REQ 2 at index 255: the sum wraps; MLT_REQ 3 only masks
 pub mlt-wraps : mltIndex 2 255 ≡ 0
@@ -25,23 +25,23 @@ unfolding mltIndex
 mlt-masks = refl
 
 -- B9 02: MASK_EN, black; B9 05 freezes, by its low two bits, and is fixed
-pub black : decode (sent 0xB9 2) ≡ S.plain (S.maskEn 2)
+pub black : decode (packetOf 0xB9 2) ≡ S.plain (S.maskEn 2)
 unfolding decode codeOf find masking
 black = refl
 
-pub freezes : decode (sent 0xB9 5) ≡ S.fixed S.freeze
+pub freezes : decode (packetOf 0xB9 5) ≡ S.fixed S.freeze
 unfolding decode codeOf find masking
 freezes = refl
 
 -- CHR_TRN for the upper half; PAL12; SOUND, which does nothing
-pub upper : decode (sent 0x99 3) ≡ S.fixed (S.transfer (BorderTiles true))
+pub upper : decode (packetOf 0x99 3) ≡ S.fixed (S.transfer (BorderTiles true))
 unfolding decode codeOf find bitOf
 upper = refl
 
-pub pal12 : decode (sent 0x19 0) ≡ S.plain (S.palPair 1 2 (sent 0x19 0))
+pub pal12 : decode (packetOf 0x19 0) ≡ S.plain (S.palPair 1 2 (packetOf 0x19 0))
 unfolding decode codeOf find
 pal12 = refl
 
-pub sound : decode (sent 0x41 0) ≡ S.plain S.nothing
+pub sound : decode (packetOf 0x41 0) ≡ S.plain S.nothing
 unfolding decode codeOf find
 sound = refl

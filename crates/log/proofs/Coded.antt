@@ -5,7 +5,7 @@ use Prim.Native.Nat.{ℕ, zero, suc, _+_, _-_, _*_, _≤_, _<_}
 use native.Mathlib.Omega.{arith}
 use lib.ListN.{length, take, drop, length-take, take-append-drop, drop-of-length-le}
 use Rattle.layout.specs.Block.{load}
-use Rattle.block_write.specs.Bytes.{packetsIn}
+use Rattle.block_write.specs.Bytes.{packetsTold}
 use Rattle.block_writes.specs.Play.{played}
 use Rattle.layout.specs.Block.{save}
 use Rattle.bits.specs.Answer.{given}
@@ -60,7 +60,7 @@ module _ (r : Reading) (b bytes command : List ℕ) (at : ℕ) where
   pub played-within : (n : ℕ) → r .from ≤ r .upto → r .upto ≤ captureBytes → n ≡ played (load b) ws .at → r .from + n ≤ captureBytes
   played-within n h k e = let l : length ws ≤ r .upto - r .from = simp length-take (omega arith) in omega (arith, at-most (load b) ws)
 
-  pub played-answer : (n packets : ℕ) (t : Told) → n ≡ played (load b) ws .at → packets ≡ packetsIn (played (load b) ws .told) → t ≡ toldOf packets
+  pub played-answer : (n packets : ℕ) (t : Told) → n ≡ played (load b) ws .at → packets ≡ packetsTold (played (load b) ws .told) → t ≡ toldOf packets
       → _≡_ {A = Step} (record { reading = record { held = r .held; number = r .number; from = r .from + n; upto = r .upto }; at = at; told = t })
       (answerOf (ranOn r (desk b [] bytes command) at))
   unfolding ranOn playedTo pending

@@ -66,7 +66,7 @@ next-outcome f chunk rest k h = step-tells (f .reading) (f .desk) chunk (f .at) 
 pub record Fill·Keeps (r : Reading) (size at : ℕ) (f : Filling) : Type 0 where
   pub fit : Fit (f .reading) (f .desk)
   pub within : f .at ≤ size
-  pub counted : f .reading .number + at ≤ r .number + f .at
+  pub numbered : f .reading .number + at ≤ r .number + f .at
   pub no-more : left (f .reading) size (f .at) ≤ left r size at
 
 -- and what it tells
@@ -76,15 +76,15 @@ record Fills (chunk : List ℕ) (f g : Filling) : Type 0 where
   pub ends : (rest : List ℕ) → outcome f chunk rest ≡ outcome g chunk rest
 
 stays : (chunk : List ℕ) (f : Filling) → Fit (f .reading) (f .desk) → f .at ≤ length chunk → Fills chunk f f
-stays chunk f k h = record { keeps = record { fit = k; within = h; counted = omega arith; no-more = omega arith }; tells = λ rest. refl; ends = λ rest. refl }
+stays chunk f k h = record { keeps = record { fit = k; within = h; numbered = omega arith; no-more = omega arith }; tells = λ rest. refl; ends = λ rest. refl }
 
 then : (chunk : List ℕ) (f g : Filling) → Fit (f .reading) (f .desk) → f .at ≤ length chunk → 0 < left (f .reading) (length chunk) (f .at) → Fills chunk (next f chunk) g → Fills chunk f g
 then chunk f g k h more z =
     let s : Step·Keeps (f .reading) (f .desk) (length chunk) (f .at) (stepped (f .reading) (f .desk) chunk (f .at)) = step-keeps (f .reading) (f .desk) chunk (f .at) k h in
-    let c : g .reading .number + stepped (f .reading) (f .desk) chunk (f .at) .at ≤ stepped (f .reading) (f .desk) chunk (f .at) .reading .number + g .at = (unfold next nextBy in z .keeps .counted) in
+    let c : g .reading .number + stepped (f .reading) (f .desk) chunk (f .at) .at ≤ stepped (f .reading) (f .desk) chunk (f .at) .reading .number + g .at = (unfold next nextBy in z .keeps .numbered) in
     let m : left (g .reading) (length chunk) (g .at) ≤ left (stepped (f .reading) (f .desk) chunk (f .at) .reading) (length chunk) (stepped (f .reading) (f .desk) chunk (f .at) .at) = (unfold next nextBy in z .keeps .no-more) in
     record {
-      keeps = record { fit = z .keeps .fit; within = z .keeps .within; counted = omega (arith, s .counted); no-more = omega (arith, s .less more) };
+      keeps = record { fit = z .keeps .fit; within = z .keeps .within; numbered = omega (arith, s .numbered); no-more = omega (arith, s .less more) };
       tells = λ rest. next-story f chunk rest k h ∙ z .tells rest;
       ends = λ rest. next-outcome f chunk rest k h ∙ z .ends rest;
     }

@@ -58,7 +58,7 @@ pending-long r d f = simp (length-take, length-drop) (omega (arith, f .bytes-lon
 pub record Step·Keeps (r : Reading) (d : Desk) (size at : ℕ) (s : Stepped) : Type 0 where
   pub fit : Fit (s .reading) (s .desk)
   pub within : s .at ≤ size
-  pub counted : s .reading .number + at ≤ r .number + s .at
+  pub numbered : s .reading .number + at ≤ r .number + s .at
   pub less : 0 < left r size at → left (s .reading) size (s .at) < left r size at
 
 ran-keeps : (r : Reading) (d : Desk) (size at : ℕ) → Fit r d → at ≤ size → r .from < r .upto → Step·Keeps r d size at (ranOn r d at)
@@ -84,7 +84,7 @@ ran-keeps r d size at f h more =
             number-fits = f .number-fits;
           };
       within = h;
-      counted = omega arith;
+      numbered = omega arith;
       less = λ z. omega arith;
     }
 
@@ -197,12 +197,12 @@ took-keeps r d chunk at f h none-left = go (ltb (stop) (length chunk)) refl
         record {
           fit = k .fit;
           within = omega (arith, k .at-is);
-          counted = omega (arith, k .at-is, k .number-is, past);
+          numbered = omega (arith, k .at-is, k .number-is, past);
           less = λ z. omega (arith, k .at-is, k .few, past);
         }
     go false e = unfold took in
         let l : length chunk ≤ stop = ltb-false (stop) (length chunk) e in
-        record { fit = f′; within = inside; counted = omega (arith, past); less = λ z. omega (arith, inside) }
+        record { fit = f′; within = inside; numbered = omega (arith, past); less = λ z. omega (arith, inside) }
 
 pub step-keeps : (r : Reading) (d : Desk) (chunk : List ℕ) (at : ℕ) → Fit r d → at ≤ length chunk → Step·Keeps r d (length chunk) at (stepped r d chunk at)
 unfolding stepped

@@ -20,7 +20,7 @@ use Rattle.layout.specs.Block.{load}
 use Rattle.layout.specs.Valid.{Valid}
 use Rattle.layout.proofs.Goods.{valid-good}
 use Rattle.rules.proofs.Keeps.{WholeIf}
-use Rattle.block_write.specs.Bytes.{packetsIn}
+use Rattle.block_write.specs.Bytes.{packetsTold}
 use Rattle.block_writes.specs.Play.{played}
 use Rattle.log.specs.Texts.{shown}
 use Rattle.log.specs.Steps.{Desk, desk, Stepped, answerOf, toldOf, ranOn, playedTo, pending, endedAs, ended, took, tookOn, stepped, holding, withLine, toldBy, ToldFits, eventsOn, isRefused, filledBy, Said}
@@ -106,8 +106,8 @@ module _ (f : Filled) (d : Desk) (chunk out : List ℕ) (a : Step) (b′ l′ y�
       }
 
 -- a command that is told has few packets
-told-packets : (o : Option (List ℕ)) → WholeIf o → ToldFits (toldOf (packetsIn o))
-unfolding packetsIn
+told-packets : (o : Option (List ℕ)) → WholeIf o → ToldFits (toldOf (packetsTold o))
+unfolding packetsTold
 told-packets none w = unfold toldOf ToldFits in tt
 told-packets (some c) w = go (length c / 16) (omega (arith, w .most))
   where

@@ -13,7 +13,7 @@ use Rattle.layout.specs.Sgb.{Sgb}
 use Rattle.layout.proofs.Goods.{valid-good, good-back}
 use Rattle.rules.specs.Write.{written, answer}
 use Rattle.rules.proofs.Keeps.{WholeIf, good-written, answered-whole}
-use Rattle.block_write.specs.Bytes.{handed, packetsIn}
+use Rattle.block_write.specs.Bytes.{handed, packetsTold}
 use Rattle.block_writes.specs.Play.{Played, stop, played}
 use Rattle.log_line.specs.Lines.{markedFrom, meaningMarked}
 use Rattle.log_line.specs.Split.{heldAs}
@@ -66,8 +66,8 @@ kept-played u [] g = record { good = g; whole = tt }
 kept-played u (v ∷ vs) g = kept-stop (answer u v) (written u v) (played (written u v) vs) (answered-whole (u .port) v (g .port)) (good-written u v g) (kept-played (written u v) vs (good-written u v g))
 
 -- it stands in the buffer
-told-buffer : (o : Option (List ℕ)) (r : Reading) (command : List ℕ) → WholeIf o → toldBy (toldOf (packetsIn o)) r (handed o command) ≡ answerEvents o
-unfolding answerEvents handed packetsIn
+told-buffer : (o : Option (List ℕ)) (r : Reading) (command : List ℕ) → WholeIf o → toldBy (toldOf (packetsTold o)) r (handed o command) ≡ answerEvents o
+unfolding answerEvents handed packetsTold
 told-buffer none r command w = unfold toldOf toldBy in refl
 told-buffer (some c) r command w = go (length c / 16) refl
   where

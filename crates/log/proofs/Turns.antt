@@ -39,7 +39,7 @@ module _ (r : Reading) (d : Desk) (chunk : List ℕ) (from : ℕ) (out : List �
     pub tells : out′ ≡ over 0 (length (shown events)) (shown events) out
     pub fit : Fit (f .reading) e
     pub within : f .at ≤ length chunk
-    pub counted : f .reading .number + from ≤ r .number + f .at
+    pub numbered : f .reading .number + from ≤ r .number + f .at
 
   pub begins : Fit r d → from ≤ length chunk → Turn (record { reading = r; at = from; size = 0; refused = false }) d out
   unfolding fill shown
@@ -53,7 +53,7 @@ module _ (r : Reading) (d : Desk) (chunk : List ℕ) (from : ℕ) (out : List �
     tells = refl;
     fit = k;
     within = h;
-    counted = omega arith;
+    numbered = omega arith;
   }
 
   -- a turn
@@ -118,7 +118,7 @@ module _ (r : Reading) (d : Desk) (chunk : List ℕ) (from : ℕ) (out : List �
       tells = puts;
       fit = subst⁻¹ (λ (x : Reading). Fit x e′) reading-is (subst⁻¹ (λ (y : Desk). Fit (S .reading) y) (s .lends) (k .fit));
       within = omega (arith, at-is, k .within);
-      counted = omega (arith, at-is, ap (λ (x : Reading). x .number) reading-is, k .counted, t .counted);
+      numbered = omega (arith, at-is, ap (λ (x : Reading). x .number) reading-is, k .numbered, t .numbered);
     }
 
     pub turns : length out′ ≡ length out → Turn g e′ out″

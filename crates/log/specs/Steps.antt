@@ -13,7 +13,7 @@ use Rattle.parts.specs.Parts.{captureBytes, storeBytes}
 use Rattle.layout.specs.Sgb.{Sgb}
 use Rattle.layout.specs.Valid.{Valid}
 use Rattle.rules.specs.Screen.{screened}
-use Rattle.block_write.specs.Bytes.{handed, packetsIn}
+use Rattle.block_write.specs.Bytes.{handed, packetsTold}
 use Rattle.block_writes.specs.Play.{Played, played}
 use Rattle.log_line.specs.Line.{lineDigits, Meaning, writes, screen, refused}
 use Rattle.log_line.specs.Lines.{markedFrom, meaningMarked}
@@ -66,7 +66,7 @@ unfoldable pub playedTo : Reading → Desk → ℕ → Played → Stepped
 playedTo r d at p = record {
   reading = record { held = r .held; number = r .number; from = r .from + p .at; upto = r .upto };
   at = at;
-  told = toldOf (packetsIn (p .told));
+  told = toldOf (packetsTold (p .told));
   desk = record { block = save (p .unit); line = d .line; bytes = d .bytes; command = handed (p .told) (d .command) };
 }
 

@@ -21,7 +21,7 @@ use Rattle.log_reader.specs.declared.Fed.{Fed}
 pub record Turn (r₀ : Reading) (chunk : List ℕ) (r : Reading) (e : Desk) (at : ℕ) : Type 0 where
   pub fit : Fit r e
   pub within : at ≤ length chunk
-  pub counted : r .number ≤ r₀ .number + at
+  pub numbered : r .number ≤ r₀ .number + at
 
 module _ (r₀ r : Reading) (d : Desk) (chunk : List ℕ) (at : ℕ) (out : List ℕ) (g : Filled) (e : Desk) (out′ : List ℕ) (t : Turn r₀ chunk r d at) (f : Full r d chunk at out g e out′) where
   F : Filling
@@ -42,7 +42,7 @@ module _ (r₀ r : Reading) (d : Desk) (chunk : List ℕ) (at : ℕ) (out : List
   filled-turn = record {
     fit = subst⁻¹ (λ (x : Reading). Fit x e) reading-is (subst⁻¹ (λ (y : Desk). Fit (fill (length out) r d chunk at .reading) y) (f .lends) (k .fit));
     within = omega (arith, at-is, k .within);
-    counted = omega (arith, at-is, ap (λ (x : Reading). x .number) reading-is, k .counted, t .counted);
+    numbered = omega (arith, at-is, ap (λ (x : Reading). x .number) reading-is, k .numbered, t .numbered);
   }
 
   pub filled-less : 0 < left r (length chunk) at → stepRoom ≤ length out → left (g .reading) (length chunk) (g .at) < left r (length chunk) at
@@ -52,10 +52,10 @@ module _ (r₀ r : Reading) (d : Desk) (chunk : List ℕ) (at : ℕ) (out : List
 
 -- what a chunk keeps
 pub turn-kept : (r₀ : Reading) (chunk : List ℕ) (f : Fed) (e : Desk) (at : ℕ) → Turn r₀ chunk (f .reading) e at → Kept r₀ (length chunk) f e
-turn-kept r₀ chunk f e at t = record { fit = t .fit; counted = omega (arith, t .counted, t .within) }
+turn-kept r₀ chunk f e at t = record { fit = t .fit; numbered = omega (arith, t .numbered, t .within) }
 
 pub kept-more : (r : Reading) (m n : ℕ) (f : Fed) (e : Desk) → m ≤ n → Kept r m f e → Kept r n f e
-kept-more r m n f e h k = record { fit = k .fit; counted = omega (arith, k .counted) }
+kept-more r m n f e h k = record { fit = k .fit; numbered = omega (arith, k .numbered) }
 
 -- a fresh unit and the buffers of the programs
 boot-valid : (b : List ℕ) → b ≡ postBoot → Valid b

@@ -28,4 +28,4 @@ pub record Sized (d : Desk) : Type 0 where
 
 pub record Kept (r : Reading) (size : ℕ) (f : Fed) (e : Desk) : Type 0 where
   pub fit : Fit (f .reading) e
-  pub counted : f .reading .number ≤ r .number + size
+  pub numbered : f .reading .number ≤ r .number + size

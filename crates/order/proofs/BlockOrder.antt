@@ -16,7 +16,7 @@ use Rattle.layout.proofs.Goods.{valid-good, good-back, good-valid}
 use Rattle.rules.specs.Write.{written, answer}
 use Rattle.rules.specs.Screen.{shown, screened}
 use Rattle.rules.proofs.Keeps.{good-written, good-screened}
-use Rattle.order.specs.Log.{Event, write, screen, accepts, seen, shownIf, sees, Outcome, afterWrite, afterScreen, run, Aligned}
+use Rattle.order.specs.Log.{Act, write, screen, accepts, seen, shownIf, sees, Outcome, afterWrite, afterScreen, run, Aligned}
 use Rattle.order.specs.Blocks.{Called, calledWrite, calledScreen, writtenBlock, seenBlock, calls}
 use Rattle.order.proofs.Order.{order}
 
@@ -43,7 +43,7 @@ sees-block u x g = go (accepts x)
 
 -- ---- a whole log
 
-calls-run : (u : Sgb) → Good u → (l : List Event) → calls (save u) l ≡ saved (run u l)
+calls-run : (u : Sgb) → Good u → (l : List Act) → calls (save u) l ≡ saved (run u l)
 unfolding calls run saved calledWrite calledScreen afterWrite afterScreen writtenBlock
 calls-run u g [] = refl
 calls-run u g (write v ∷ l) =
@@ -52,7 +52,7 @@ calls-run u g (screen x ∷ l) =
     rw (good-back u g, sees-block u x g) (ap (calledScreen (seen (u .snes) x)) (calls-run (sees u x) (sees-good u x g) l))
 
 -- demand 3: a valid block and two logs that are aligned: the same block at the end, and the same answer to each write and to each screen
-pub block-order : (k : List ℕ) → valid k ≡ true → (a b : List Event) → Aligned (load k) a b → calls k a ≡ calls k b
+pub block-order : (k : List ℕ) → valid k ≡ true → (a b : List Act) → Aligned (load k) a b → calls k a ≡ calls k b
 block-order k v a b h =
     ap (λ c. calls c a) (sym (save-load k (clauses k v)))
     ∙ calls-run (load k) (valid-good k v) a
@@ -61,13 +61,13 @@ block-order k v a b h =
     ∙ ap (λ c. calls c b) (save-load k (clauses k v))
 
 -- and every call of a log leaves a valid block
-run-good : (u : Sgb) → Good u → (l : List Event) → Good (run u l .last)
+run-good : (u : Sgb) → Good u → (l : List Act) → Good (run u l .last)
 unfolding run afterWrite afterScreen
 run-good u g [] = g
 run-good u g (write v ∷ l) = run-good (written u v) (good-written u v g) l
 run-good u g (screen x ∷ l) = run-good (sees u x) (sees-good u x g) l
 
-pub calls-valid : (k : List ℕ) → valid k ≡ true → (l : List Event) → valid (calls k l .block) ≡ true
+pub calls-valid : (k : List ℕ) → valid k ≡ true → (l : List Act) → valid (calls k l .block) ≡ true
 unfolding saved
 calls-valid k v l =
     ap (λ c. valid (calls c l .block)) (sym (save-load k (clauses k v)))

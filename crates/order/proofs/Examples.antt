@@ -40,10 +40,10 @@ use Rattle.layout.specs.Good.{Good}
 use Rattle.layout.specs.Fresh.{fresh, times, wordBytes}
 use Rattle.layout.proofs.Freshes.{fresh-good}
 use Rattle.layout.proofs.Goods.{good-valid}
-use Rattle.rules.specs.Carry.{withPending, withPads, withPalettes, withMap, withMask, withoutMask, fixedly, sent, carriedGame, carriedSnes, carried}
+use Rattle.rules.specs.Carry.{withPending, withPads, withPalettes, withMap, withMask, withoutMask, fixedly, fixedSnes, carriedGame, carriedSnes, carried}
 use Rattle.rules.specs.Write.{advanced, meant, carries, stepped, written}
 use Rattle.rules.specs.Screen.{captured, withSystem, landed, landing, shown}
-use Rattle.order.specs.Log.{Event, write, screen, accepts, shownIf, sees, afterWrite, afterScreen, run, writesOf, screensOf, screensBefore, fixedOf, fixedAt}
+use Rattle.order.specs.Log.{Act, write, screen, accepts, shownIf, sees, afterWrite, afterScreen, run, writesOf, screensOf, screensBefore, fixedOf, fixedAt}
 use Rattle.order.proofs.Order.{order}
 
 -- the fresh unit, but that a packet with first byte b and zeros is in up to its stop pulse, and the page is due
@@ -93,20 +93,20 @@ abbrev shot : List ℕ
 shot = replicate captureBytes 0xFF
 
 -- the stop pulse, before the screen and after it
-abbrev early : List Event
+abbrev early : List Act
 early = write 0x20 ∷ screen shot ∷ []
 
-abbrev late : List Event
+abbrev late : List Act
 late = screen shot ∷ write 0x20 ∷ []
 
 -- PAL_SET, 51: its two places differ, in the second byte of the palettes
 pub pal-set-moves : run (ready 0x51) early ≡ run (ready 0x51) late → ⊥
-unfolding fresh times wordBytes lowByte highByte withPending bitOf bitAt pairOf byteOf tab tabFrom word wordAt codeOf countOf p14High p15High bothHigh pulseBy pulseOf indexed receive.idle receive.quiet receive.kept receive.counted receive.stopped receive.clocked receive.whenReceiving receive.pulsed receive.written bytesOf appended filed answerOf emptied answered wrote pairAt planeByte pageOf palettesLanded pending.screened pending.landing systemNumber chosen palSet find decode palSetMap cancelled withPads withPalettes withMap withMask withoutMask fixedly sent carriedGame carriedSnes advanced meant carries carried stepped written captured withSystem landed landing shown accepts shownIf sees afterWrite afterScreen run
+unfolding fresh times wordBytes lowByte highByte withPending bitOf bitAt pairOf byteOf tab tabFrom word wordAt codeOf countOf p14High p15High bothHigh pulseBy pulseOf indexed receive.idle receive.quiet receive.kept receive.expecting receive.stopped receive.clocked receive.whenReceiving receive.pulsed receive.afterPulse bytesOf appended filed answerOf emptied answered wrote pairAt planeByte pageOf palettesLanded pending.fallen pending.lands systemNumber chosen palSet find decode palSetMap cancelled withPads withPalettes withMap withMask withoutMask fixedly fixedSnes carriedGame carriedSnes advanced meant carries carried stepped written captured withSystem landed landing shown accepts shownIf sees afterWrite afterScreen run
 pal-set-moves e = let z : _≡_ {A = ℕ} 127 255 = ap (λ o. getD (o .last .game .palettes) 1 0) e in omega arith
 
 -- ATTR_DIV, 31: no write of this log is fixed, so it may be moved past the landing
 pub attr-div-moves : run (ready 0x31) early ≡ run (ready 0x31) late
-unfolding bitOf codeOf countOf p14High p15High bothHigh pulseBy pulseOf receive.idle receive.quiet receive.kept receive.counted receive.stopped receive.clocked receive.whenReceiving receive.pulsed receive.written bytesOf appended filed answerOf answered wrote find decode meant carries carried stepped written sees fixedOf fixedAt writesOf screensOf
+unfolding bitOf codeOf countOf p14High p15High bothHigh pulseBy pulseOf receive.idle receive.quiet receive.kept receive.expecting receive.stopped receive.clocked receive.whenReceiving receive.pulsed receive.afterPulse bytesOf appended filed answerOf answered wrote find decode meant carries carried stepped written sees fixedOf fixedAt writesOf screensOf
 attr-div-moves = order (ready 0x31) early late (record { sameWrites = refl; sameScreens = refl; sameBefore = none-fixed })
   where
     none-fixed : (i : ℕ) → IsSome (fixedAt (ready 0x31) early i) → screensBefore early i ≡ screensBefore late i

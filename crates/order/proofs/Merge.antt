@@ -6,7 +6,7 @@ use mathlib.Core.Path.{_≡_, refl, sym, ap, fun-ext, _∙_}
 use mathlib.Core.List.{List, [], _∷_, _++_, map}
 use mathlib.Core.Option.{Option, none, some, IsSome}
 use lib.ListN.{take, drop}
-use Rattle.order.specs.Log.{Event, write, screen, writesOf, screensOf, screensBefore}
+use Rattle.order.specs.Log.{Act, write, screen, writesOf, screensOf, screensBefore}
 
 pub data Mark (C : Type 0) : Type 0 where
   shows : List ℕ → Mark C
@@ -55,7 +55,7 @@ module _ {R C : Type 0} (next : R → ℕ → R) (pick : R → ℕ → Option C)
   pickAt r (w ∷ ws) (suc i) = pickAt (next r w) ws i
 
   -- a log without the writes that are not picked
-  unfoldable pub sieve : R → List Event → List (Mark C)
+  unfoldable pub sieve : R → List Act → List (Mark C)
   sieve r [] = []
   sieve r (screen x ∷ l) = shows x ∷ sieve r l
   sieve r (write w ∷ l) = keep (pick r w) (sieve (next r w) l)
@@ -70,7 +70,7 @@ module _ {R C : Type 0} (next : R → ℕ → R) (pick : R → ℕ → Option C)
   sift-screen r [] x xs f = refl
   sift-screen r (w ∷ ws) x xs f = place-screen (pick r w) x xs f _ (λ ys h. sift-screen (next r w) ws x ys h)
 
-  sieve-sift : (r : R) (l : List Event) → sieve r l ≡ sift r (writesOf l) (screensOf l) (screensBefore l)
+  sieve-sift : (r : R) (l : List Act) → sieve r l ≡ sift r (writesOf l) (screensOf l) (screensBefore l)
   unfolding sieve sift writesOf screensOf screensBefore
   sieve-sift r [] = refl
   sieve-sift r (screen x ∷ l) =
@@ -86,7 +86,7 @@ module _ {R C : Type 0} (next : R → ℕ → R) (pick : R → ℕ → Option C)
       place-agree (pick r w) xs f g _ (e 0)
       (λ ys t. sift-agree (next r w) ws ys (λ i. t (f (suc i))) (λ i. t (g (suc i))) (λ i p. ap t (e (suc i) p)))
 
-  pub sieve-same : (r : R) (a b : List Event) → writesOf a ≡ writesOf b → screensOf a ≡ screensOf b
+  pub sieve-same : (r : R) (a b : List Act) → writesOf a ≡ writesOf b → screensOf a ≡ screensOf b
       → ((i : ℕ) → IsSome (pickAt r (writesOf a) i) → screensBefore a i ≡ screensBefore b i)
       → sieve r a ≡ sieve r b
   sieve-same r a b ew es e =

@@ -6,9 +6,9 @@ use mathlib.Core.Option.{Option, none, some}
 use Rattle.receiver.specs.Port.{Port, wrote, answered}
 use Rattle.commands.specs.Command.{Command, plain, fixed, Fixed}
 use Rattle.layout.specs.Sgb.{Sgb, Game, Snes}
-use Rattle.rules.specs.Carry.{carriedGame, carriedSnes, carried, sent}
+use Rattle.rules.specs.Carry.{carriedGame, carriedSnes, carried, fixedSnes}
 use Rattle.rules.specs.Write.{stepped, written, answer, carries, advanced}
-use Rattle.order.specs.Log.{Event, write, screen, Seen, seen, shownIf, sees, Outcome, afterWrite, afterScreen, run, writesOf, fixedOf, fixedAt, Aligned}
+use Rattle.order.specs.Log.{Act, write, screen, Seen, seen, shownIf, sees, Outcome, afterWrite, afterScreen, run, writesOf, fixedOf, fixedAt, Aligned}
 use Rattle.order.proofs.Merge.{Mark, shows, does, keep, sieve, pickAt, sieve-same}
 
 fixes : Port → ℕ → Option Fixed
@@ -27,7 +27,7 @@ tape s [] = record { last = s; seen = []; sights = [] }
 tape s (shows x ∷ l) =
     record { last = (tape (shownIf s x) l) .last; seen = (tape (shownIf s x) l) .seen; sights = seen s x ∷ (tape (shownIf s x) l) .sights }
 tape s (does c ∷ l) =
-    record { last = (tape (sent c s) l) .last; seen = s ∷ (tape (sent c s) l) .seen; sights = (tape (sent c s) l) .sights }
+    record { last = (tape (fixedSnes c s) l) .last; seen = s ∷ (tape (fixedSnes c s) l) .seen; sights = (tape (fixedSnes c s) l) .sights }
 
 -- ------------------------------------------------------------- the receiver and `Game`: told by the writes and by what fixed ones see
 
@@ -85,7 +85,7 @@ unfolding told tape looked rest keep fixedOf carriedGame carriedSnes
 step (plain c) s₀ r g s ws m = refl
 step (fixed c) s₀ r g s ws m = refl
 
-run-told : (s₀ : Snes) (u : Sgb) (l : List Event)
+run-told : (s₀ : Snes) (u : Sgb) (l : List Act)
     → run u l ≡ told s₀ (u .port) (u .game) (writesOf l) (tape (u .snes) (sieve wrote fixes (u .port) l))
 unfolding run told tape receivers answersOf played writesOf sieve sees carried stepped written answer afterWrite afterScreen fixes
 run-told s₀ u [] = refl
@@ -96,14 +96,14 @@ run-told s₀ u (write w ∷ l) =
     ∙ step (carries (u .port) w) s₀ (wrote (u .port) w) (advanced (u .port) w (u .game)) (u .snes) (writesOf l) (sieve wrote fixes (wrote (u .port) w) l))
 
 -- which writes are fixed is told by the writes alone
-fixed-told : (u : Sgb) (l : List Event) (i : ℕ) → fixedAt u l i ≡ pickAt wrote fixes (u .port) (writesOf l) i
+fixed-told : (u : Sgb) (l : List Act) (i : ℕ) → fixedAt u l i ≡ pickAt wrote fixes (u .port) (writesOf l) i
 unfolding fixedAt pickAt writesOf carried stepped written sees fixes
 fixed-told u [] i = refl
 fixed-told u (screen x ∷ l) i = fixed-told (sees u x) l i
 fixed-told u (write w ∷ l) zero = refl
 fixed-told u (write w ∷ l) (suc i) = fixed-told (written u w) l i
 
-pub order : (u : Sgb) (a b : List Event) → Aligned u a b → run u a ≡ run u b
+pub order : (u : Sgb) (a b : List Act) → Aligned u a b → run u a ≡ run u b
 order u a b h =
     run-told (u .snes) u a
     ∙ ap (λ ws. told (u .snes) (u .port) (u .game) ws (tape (u .snes) (sieve wrote fixes (u .port) a))) (h .sameWrites)
@@ -112,5 +112,5 @@ order u a b h =
     ∙ sym (run-told (u .snes) u b)
 
 -- both logs agree on which writes are fixed, and on the commands that those carry out
-pub fixed-same : (u : Sgb) (a b : List Event) → writesOf a ≡ writesOf b → (i : ℕ) → fixedAt u a i ≡ fixedAt u b i
+pub fixed-same : (u : Sgb) (a b : List Act) → writesOf a ≡ writesOf b → (i : ℕ) → fixedAt u a i ≡ fixedAt u b i
 fixed-same u a b e i = fixed-told u a i ∙ ap (λ ws. pickAt wrote fixes (u .port) ws i) e ∙ sym (fixed-told u b i)

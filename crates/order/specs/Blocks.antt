@@ -6,7 +6,7 @@ use mathlib.Core.Option.{Option}
 use Rattle.layout.specs.Block.{load, save}
 use Rattle.rules.specs.Write.{written, answer}
 use Rattle.rules.specs.Screen.{screened}
-use Rattle.order.specs.Log.{Event, write, screen, Seen, accepts, seen}
+use Rattle.order.specs.Log.{Act, write, screen, Seen, accepts, seen}
 
 -- the block at the end, and the answers
 pub record Called : Type 0 where
@@ -27,7 +27,7 @@ writtenBlock b v = save (written (load b) v)
 unfoldable pub seenBlock : List ℕ → List ℕ → List ℕ
 seenBlock b x = cond (accepts x) (save (screened (load b) x)) b
 
-unfoldable pub calls : List ℕ → List Event → Called
+unfoldable pub calls : List ℕ → List Act → Called
 calls b [] = record { block = b; answers = []; sights = [] }
 calls b (write v ∷ l) = calledWrite (answer (load b) v) (calls (writtenBlock b v) l)
 calls b (screen x ∷ l) = calledScreen (seen (load b .snes) x) (calls (seenBlock b x) l)

@@ -15,9 +15,9 @@ use Rattle.layout.specs.Sgb.{Sgb, Snes}
 use Rattle.rules.specs.Write.{written, answer, carries}
 use Rattle.rules.specs.Screen.{shown, landing}
 
-pub data Event : Type 0 where
-  write : ℕ → Event
-  screen : List ℕ → Event
+pub data Act : Type 0 where
+  write : ℕ → Act
+  screen : List ℕ → Act
 
 -- ---- a screen of any length
 
@@ -54,25 +54,25 @@ afterWrite a o = record { last = o .last; answers = a ∷ o .answers; sights = o
 unfoldable pub afterScreen : Seen → Outcome → Outcome
 afterScreen a o = record { last = o .last; answers = o .answers; sights = a ∷ o .sights }
 
-unfoldable pub run : Sgb → List Event → Outcome
+unfoldable pub run : Sgb → List Act → Outcome
 run u [] = record { last = u; answers = []; sights = [] }
 run u (write v ∷ l) = afterWrite (answer u v) (run (written u v) l)
 run u (screen x ∷ l) = afterScreen (seen (u .snes) x) (run (sees u x) l)
 
 -- ---- the same writes and the same screens, merged differently
 
-unfoldable pub writesOf : List Event → List ℕ
+unfoldable pub writesOf : List Act → List ℕ
 writesOf [] = []
 writesOf (write v ∷ l) = v ∷ writesOf l
 writesOf (screen x ∷ l) = writesOf l
 
-unfoldable pub screensOf : List Event → List (List ℕ)
+unfoldable pub screensOf : List Act → List (List ℕ)
 screensOf [] = []
 screensOf (write v ∷ l) = screensOf l
 screensOf (screen x ∷ l) = x ∷ screensOf l
 
 -- how many screens stand before write i, counted from 0
-unfoldable pub screensBefore : List Event → ℕ → ℕ
+unfoldable pub screensBefore : List Act → ℕ → ℕ
 screensBefore [] i = 0
 screensBefore (screen x ∷ l) i = suc (screensBefore l i)
 screensBefore (write v ∷ l) zero = 0
@@ -84,7 +84,7 @@ fixedOf (plain c) = none
 fixedOf (fixed c) = some c
 
 -- the fixed command that write i carries out, judged on the unit as that write finds it; none where it carries out no fixed one
-unfoldable pub fixedAt : Sgb → List Event → ℕ → Option Fixed
+unfoldable pub fixedAt : Sgb → List Act → ℕ → Option Fixed
 fixedAt u [] i = none
 fixedAt u (screen x ∷ l) i = fixedAt (sees u x) l i
 fixedAt u (write v ∷ l) zero = fixedOf (carries (u .port) v)
@@ -92,7 +92,7 @@ fixedAt u (write v ∷ l) (suc i) = fixedAt (written u v) l i
 
 -- "two logs with the same writes in order and the same screens in order, merged differently .. every fixed write has equally many screens
 -- before it in both"
-pub record Aligned (u : Sgb) (a b : List Event) : Type 0 where
+pub record Aligned (u : Sgb) (a b : List Act) : Type 0 where
   pub sameWrites : writesOf a ≡ writesOf b
   pub sameScreens : screensOf a ≡ screensOf b
   pub sameBefore : (i : ℕ) → IsSome (fixedAt u a i) → screensBefore a i ≡ screensBefore b i

@@ -18,7 +18,7 @@ use Rattle.border.specs.Border.{entryAt, draws, flipped, indexOf}
 use Rattle.border.proofs.Entries.{index-lt}
 use Rattle.picture_lanes.specs.Lanes.{lanes, lane}
 use Rattle.picture_lanes.proofs.Laws.{lane-at, lane-zero}
-use Rattle.picture_runs.specs.Runs.{baseOf, shadeIn, Packs, screenFrom, within, runPixel, pixelIn}
+use Rattle.picture_runs.specs.Runs.{baseOf, laneShade, Packs, screenFrom, within, runPixel, pixelIn}
 
 index-of-lt : (tiles : List ℕ) (w x y : ℕ) → indexOf tiles w x y < 16
 unfolding indexOf
@@ -42,7 +42,7 @@ module _ (tiles map attributes screen border game : List ℕ) (c y w l b at : �
       e ∙ (λ i. runPixel (q i) border (eb i) (below j)) ∙ (λ i. runPixel (indexOf tiles (ew i) j (y % 8)) border (baseOf (ew i)) (below j))
 
   on-screen : (s n j : ℕ) → within c y ≡ true → Packs s screen (screenFrom c y) → n ≡ cellAt attributes (c - 6) ((y - 40) / 8) → j < 8
-      → getD game (n * 4 + shadeIn s j) 0 ≡ below j
+      → getD game (n * 4 + laneShade s j) 0 ≡ below j
   unfolding below
   on-screen s n j t p e lt =
       (λ i. getD game (e i * 4 + p .is j lt i) 0)
@@ -57,11 +57,11 @@ module _ (tiles map attributes screen border game : List ℕ) (c y w l b at : �
   clear j v z e = e ∙ (λ i. cond (eqb (sym (lane-zero l j z) i) 0) (below j) (getD border (b + lane l j) 0))
 
   pub game-run : (o m : List ℕ) (s n : ℕ) → within c y ≡ true → Packs s screen (screenFrom c y) → n ≡ cellAt attributes (c - 6) ((y - 40) / 8) → l ≡ 0
-      → Painted o m at 8 (λ j. getD game (n * 4 + shadeIn s j) 0) → Painted o m at 8 (pixelIn tiles map attributes screen border game c y)
+      → Painted o m at 8 (λ j. getD game (n * 4 + laneShade s j) 0) → Painted o m at 8 (pixelIn tiles map attributes screen border game c y)
   game-run o m s n t p e z q = painted-same q _ (λ j lt. by-lane j lt _ (clear j _ z (on-screen s n j t p e lt)))
 
   pub both-run : (o m : List ℕ) (s n : ℕ) → within c y ≡ true → Packs s screen (screenFrom c y) → n ≡ cellAt attributes (c - 6) ((y - 40) / 8)
-      → Painted o m at 8 (λ j. runPixel (lane l j) border b (getD game (n * 4 + shadeIn s j) 0)) → Painted o m at 8 (pixelIn tiles map attributes screen border game c y)
+      → Painted o m at 8 (λ j. runPixel (lane l j) border b (getD game (n * 4 + laneShade s j) 0)) → Painted o m at 8 (pixelIn tiles map attributes screen border game c y)
   both-run o m s n t p e q = painted-same q _ (λ j lt. by-lane j lt _ (ap (λ (v : ℕ). runPixel (lane l j) border b v) (on-screen s n j t p e lt)))
 
   pub plain-run : (o m : List ℕ) → within c y ≡ false → l ≡ 0

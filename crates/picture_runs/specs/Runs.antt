@@ -33,12 +33,12 @@ unfoldable pub baseOf : ℕ → ℕ
 baseOf w = cond (draws w) ((paletteOf w - 4) * 16) 0
 
 -- shade j of the eight that a word packs, the first in the highest pair
-unfoldable pub shadeIn : ℕ → ℕ → ℕ
-shadeIn s j = s / 2 ^ (14 - 2 * j) % 4
+unfoldable pub laneShade : ℕ → ℕ → ℕ
+laneShade s j = s / 2 ^ (14 - 2 * j) % 4
 
 -- s packs the eight numbers of a packed list from the k-th on
 pub record Packs (s : ℕ) (b : List ℕ) (k : ℕ) : Type 0 where
-  pub is : (j : ℕ) → j < 8 → shadeIn s j ≡ pairAt b (k + j)
+  pub is : (j : ℕ) → j < 8 → laneShade s j ≡ pairAt b (k + j)
 
 -- the screen's cells are columns 6 to 25 of the border's, from row 40 to row 183
 unfoldable pub within : ℕ → ℕ → Bool

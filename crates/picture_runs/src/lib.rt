@@ -10,7 +10,7 @@ ghost use Rattle.parts.specs.Parts.{mapBytes, captureBytes};
 ghost use Rattle.bits.specs.Paint.{Painted};
 ghost use Rattle.screen.specs.Packed.{cellAt};
 ghost use Rattle.picture_lanes.specs.Lanes.{lane};
-ghost use Rattle.picture_runs.specs.Runs.{Lent, Tables, baseOf, shadeIn, Packs, within, screenFrom, runPixel, pixelIn};
+ghost use Rattle.picture_runs.specs.Runs.{Lent, Tables, baseOf, laneShade, Packs, within, screenFrom, runPixel, pixelIn};
 
 // The run at border column c of row y, written from `at` on.
 pub fn run(
@@ -127,7 +127,7 @@ fn run_border(out: &mut [u16], at: usize, l: u32, border: &[u16], base: usize)
 // The screen alone, whose colours for this cell stand at n.
 fn run_game(out: &mut [u16], at: usize, s: u16, game: &[u16], n: usize)
     requires { ⌜ (at + 8 ≤ length (now out)) × (n + 4 ≤ length (now game)) ⌝ }
-    ensures { λ _. ⌜ Painted (now (out .exit)) (now (out .entry)) at 8 (λ j. getD (now (game .entry)) (n + shadeIn s j) 0) ⌝ }
+    ensures { λ _. ⌜ Painted (now (out .exit)) (now (out .entry)) at 8 (λ j. getD (now (game .entry)) (n + laneShade s j) 0) ⌝ }
 {
     let mut j = 0;
     while j < 8 {
@@ -149,7 +149,7 @@ fn run_both(
     n: usize,
 )
     requires { ⌜ (at + 8 ≤ length (now out)) × (base + 16 ≤ length (now border)) × (n + 4 ≤ length (now game)) ⌝ }
-    ensures { λ _. ⌜ Painted (now (out .exit)) (now (out .entry)) at 8 (λ j. runPixel (lane l j) (now (border .entry)) base (getD (now (game .entry)) (n + shadeIn s j) 0)) ⌝ }
+    ensures { λ _. ⌜ Painted (now (out .exit)) (now (out .entry)) at 8 (λ j. runPixel (lane l j) (now (border .entry)) base (getD (now (game .entry)) (n + laneShade s j) 0)) ⌝ }
 {
     let mut j = 0;
     while j < 8 {
@@ -170,7 +170,7 @@ fn over(i: usize, border: u16, below: u16) -> u16
 // Shade j of eight.
 fn shade(s: u16, j: usize) -> usize
     requires { ⌜ j < 8 ⌝ }
-    ensures { λ r. ⌜ (r ≡ shadeIn s j) × (r < 4) ⌝ }
+    ensures { λ r. ⌜ (r ≡ laneShade s j) × (r < 4) ⌝ }
 {
     (s >> (14 - 2 * j) & 3) as usize
 }

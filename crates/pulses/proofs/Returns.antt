@@ -123,10 +123,10 @@ pub round-trip-then : (u : Port) (c rest : List ℕ) → malformed c ≡ false �
 unfolding packetsIn
 round-trip-then u c rest t h m f =
     let w = formed c t in
-    all u c rest h m f (packetsIn c) (counted c) (w .some) (w .few) (w .whole)
+    all u c rest h m f (packetsIn c) (count-is c) (w .some) (w .few) (w .whole)
   where
-    counted : (x : List ℕ) → countOf (getD x 0 0) ≡ packetsIn x
-    counted x = refl
+    count-is : (x : List ℕ) → countOf (getD x 0 0) ≡ packetsIn x
+    count-is x = refl
 
 -- The same alone: exactly one write answers, with exactly that command, and the receiver is idle after.
 pub round-trip : (u : Port) (c : List ℕ) → malformed c ≡ false → Bytes c → length (u .store) ≡ storeBytes → NoneHeld (u .rx)

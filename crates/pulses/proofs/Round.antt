@@ -14,7 +14,7 @@ use borrow.Author.Tests.{lt-ltb, le-leb, lt-leb, eq-eqb, ne-eqb}
 use Rattle.bits.specs.Bit.{bitOf}
 use Rattle.receiver.specs.Count.{countOf}
 use Rattle.receiver.specs.Lines.{p14High, p15High, bothHigh, pulseBy, pulseOf}
-use Rattle.receiver.specs.Receive.{Rx, idle, begun, restarted, dataBit, quiet, kept, counted, stopped, clocked, whenIdle, whenReceiving, whenAwaiting, pulsed, written}
+use Rattle.receiver.specs.Receive.{Rx, idle, begun, restarted, dataBit, quiet, kept, expecting, stopped, clocked, whenIdle, whenReceiving, whenAwaiting, pulsed, afterPulse}
 use Rattle.receiver.specs.Store.{bytesOf, appended, filed, answerOf, emptied}
 use Rattle.receiver.specs.Port.{Port, answered, wrote, told, heard}
 use Rattle.receiver.specs.declared.Stage.{Stage}
@@ -79,7 +79,7 @@ awaiting e n s = high (record { stage = Awaiting; expected = e; received = n; bi
 -- a data pulse and its release
 data-bit : (b e n k p : ℕ) (s rest : List ℕ) → b < 2 → k < 128
     → heard (live e n k p s) (pulse b ∷ 0x30 ∷ rest) ≡ heard (live e n (k + 1) (p + b * 2 ^ k) s) rest
-unfolding pulse heard told answered wrote written pulsed whenReceiving clocked quiet dataBit filed answerOf emptied pulseOf pulseBy p14High p15High bothHigh bitOf
+unfolding pulse heard told answered wrote afterPulse pulsed whenReceiving clocked quiet dataBit filed answerOf emptied pulseOf pulseBy p14High p15High bothHigh bitOf
 data-bit zero e n k p s rest h l = rw (lt-ltb k 128 l)
 data-bit (suc zero) e n k p s rest h l = rw (lt-ltb k 128 l)
 data-bit (suc (suc b)) e n k p s rest h l = absurd (omega arith)
@@ -116,7 +116,7 @@ bits-in-order q e n s rest l =
 -- to a receiver that awaits it
 pub next-sent : (q : List ℕ) (e n : ℕ) (s rest : List ℕ) → length q ≡ 16
     → heard (awaiting e n s) (packetPulses q ++ rest) ≡ heard (live e n 128 (value (bitsIn q)) s) (stop rest)
-unfolding packetPulses heard told answered wrote written pulsed whenReceiving whenAwaiting quiet begun restarted filed answerOf emptied pulseOf pulseBy p14High p15High bothHigh bitOf
+unfolding packetPulses heard told answered wrote afterPulse pulsed whenReceiving whenAwaiting quiet begun restarted filed answerOf emptied pulseOf pulseBy p14High p15High bothHigh bitOf
 next-sent q e n s rest l = bits-in-order q e n s rest l
 
 -- to a receiver that holds no earlier packet: what it expects then is of no account
@@ -127,7 +127,7 @@ expects Awaiting e = e
 
 begins : (u : Port) (rest : List ℕ) → NoneHeld (u .rx)
     → heard u (0x00 ∷ 0x30 ∷ rest) ≡ heard (live (expects (u .rx .stage) (u .rx .expected)) 0 0 0 (u .store)) rest
-unfolding heard told answered wrote written pulsed whenIdle whenReceiving whenAwaiting quiet begun restarted filed answerOf emptied pulseOf pulseBy p14High p15High bothHigh bitOf
+unfolding heard told answered wrote afterPulse pulsed whenIdle whenReceiving whenAwaiting quiet begun restarted filed answerOf emptied pulseOf pulseBy p14High p15High bothHigh bitOf
 begins u rest h = go (u .rx .stage) refl h
   where
     go : (t : Stage) → u .rx .stage ≡ t → NoneHeldAt t (u .rx)
@@ -152,13 +152,13 @@ pub data Due (e n p d : ℕ) : Type 0 where
 
 pub stop-more : (e n p d : ℕ) (s rest : List ℕ) → Due e n p d → n + 1 < d
     → heard (live e n 128 p s) (stop rest) ≡ heard (awaiting d (n + 1) (appended s p n)) rest
-unfolding heard told answered wrote written pulsed whenReceiving whenAwaiting clocked stopped counted kept quiet filed answerOf emptied pulseOf pulseBy p14High p15High bothHigh bitOf
+unfolding heard told answered wrote afterPulse pulsed whenReceiving whenAwaiting clocked stopped expecting kept quiet filed answerOf emptied pulseOf pulseBy p14High p15High bothHigh bitOf
 stop-more e n p d s rest (by-count z h k) m = rw (eq-eqb n 0 z, h, ne-eqb d 0 (λ y. omega arith), lt-leb d (n + 1) m)
 stop-more e n p d s rest (as-told k h) m = rw (ne-eqb n 0 (λ y. omega arith), h, lt-leb d (n + 1) m)
 
 pub stop-last : (e n p d : ℕ) (s rest : List ℕ) → Due e n p d → d ≤ n + 1
     → heard (live e n 128 p s) (stop rest) ≡ told (some (take (16 * (n + 1)) (appended s p n))) (heard resting rest)
-unfolding heard told answered wrote written pulsed whenIdle whenReceiving clocked stopped counted kept quiet idle resting filed answerOf emptied pulseOf pulseBy p14High p15High bothHigh bitOf
+unfolding heard told answered wrote afterPulse pulsed whenIdle whenReceiving clocked stopped expecting kept quiet idle resting filed answerOf emptied pulseOf pulseBy p14High p15High bothHigh bitOf
 stop-last e n p d s rest (by-count z h k) m =
     let b : n + 1 - 1 ≡ n = omega arith in
     rw (eq-eqb n 0 z, h, ne-eqb d 0 (λ y. omega arith), le-leb d (n + 1) m, b)

@@ -7,7 +7,7 @@ use Prim.Native.Nat.{ℕ}
 use Rattle.parts.specs.Parts.{storeBytes}
 use Rattle.bits.specs.Bit.{bitOf}
 use Rattle.receiver.specs.Lines.{p14High, p15High, bothHigh, pulseBy, pulseOf}
-use Rattle.receiver.specs.Receive.{idle, begun, dataBit, quiet, clocked, whenIdle, whenReceiving, pulsed, written}
+use Rattle.receiver.specs.Receive.{idle, begun, dataBit, quiet, clocked, whenIdle, whenReceiving, pulsed, afterPulse}
 use Rattle.receiver.specs.Store.{filed, answerOf, emptied}
 use Rattle.receiver.specs.Port.{Port, answered, wrote, told, heard}
 
@@ -21,10 +21,10 @@ indexAfter ws = heard booted ws .port .rx .bits
 
 -- "00 30 20": a start pulse, a release, and a data bit
 pub released : indexAfter (0x00 ∷ 0x30 ∷ 0x20 ∷ []) ≡ 1
-unfolding heard told answered wrote written pulsed whenIdle whenReceiving clocked quiet dataBit idle begun filed answerOf emptied pulseOf pulseBy p14High p15High bothHigh bitOf
+unfolding heard told answered wrote afterPulse pulsed whenIdle whenReceiving clocked quiet dataBit idle begun filed answerOf emptied pulseOf pulseBy p14High p15High bothHigh bitOf
 released = refl
 
 -- "00 then 20 leaves bit index 0": no release, no clock
 pub not-released : indexAfter (0x00 ∷ 0x20 ∷ []) ≡ 0
-unfolding heard told answered wrote written pulsed whenIdle whenReceiving clocked quiet dataBit idle begun filed answerOf emptied pulseOf pulseBy p14High p15High bothHigh bitOf
+unfolding heard told answered wrote afterPulse pulsed whenIdle whenReceiving clocked quiet dataBit idle begun filed answerOf emptied pulseOf pulseBy p14High p15High bothHigh bitOf
 not-released = refl

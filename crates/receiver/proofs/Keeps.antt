@@ -16,7 +16,7 @@ use Rattle.receiver.specs.declared.Stage.the-variants.{Idle, Receiving, 
 use Rattle.receiver.specs.Count.{countOf}
 use Rattle.receiver.specs.Lines as L
 use Rattle.receiver.specs.Lines.{Pulse, pulseOf}
-use Rattle.receiver.specs.Receive.{Rx, Step, Sound, idle, begun, restarted, dataBit, quiet, kept, counted, stopped, clocked, whenIdle, whenReceiving, whenAwaiting, pulsed, written}
+use Rattle.receiver.specs.Receive.{Rx, Step, Sound, idle, begun, restarted, dataBit, quiet, kept, expecting, stopped, clocked, whenIdle, whenReceiving, whenAwaiting, pulsed, afterPulse}
 use Rattle.receiver.specs.Store.{bytesOf, appended, filed, emptied, packetsOf}
 use Rattle.receiver.specs.Port.{Port, stepAt, wrote}
 use Rattle.receiver.specs.Valid.{Coming, First, Later, V3At, V3}
@@ -24,7 +24,7 @@ use Rattle.bits.proofs.Overs.{drop-over, getD-over}
 use Rattle.bits.proofs.Tests.{either}
 use Rattle.bits.proofs.Zeros.{replicate-zeros, zeros-drop}
 use Rattle.receiver.proofs.Words.{length-bytes}
-use Rattle.receiver.proofs.Sound.{count-few, good-written, length-filed, length-emptied, bit-below}
+use Rattle.receiver.proofs.Sound.{count-few, good-pulse, length-filed, length-emptied, bit-below}
 
 -- the packets so far: none, or some of a command
 abbrev So-far : ℕ → ℕ → List ℕ → Type 0
@@ -117,7 +117,7 @@ kept-v3 r n s l m k c z =
     ))
 
 stopped-v3 : (r : Rx) (s : List ℕ) → length s ≡ storeBytes → So-far (r .expected) (r .received) s → After (stopped r) (r .packet) s
-unfolding stopped counted quiet emptied filed
+unfolding stopped expecting quiet emptied filed
 stopped-v3 r s l (inl f) =
     rw (eq-eqb (r .received) 0 (f .none-in))
     (either (λ (x : Step). After x (r .packet) s) (eqb (countOf (r .packet % 256)) 0)
@@ -150,9 +150,9 @@ clocked-v3 r b rel s e k l v c f =
     (λ z. stopped-v3 r s l f))
     (λ y. v)
 
-written-v3 : (r : Rx) (p : Pulse) (rel : Bool) (s : List ℕ) → length s ≡ storeBytes → V3 r s → After (written r p rel) (r .packet) s
-unfolding written pulsed whenIdle whenReceiving whenAwaiting quiet emptied filed restarted
-written-v3 r p rel s l v = go (r .stage) refl p v
+pulse-v3 : (r : Rx) (p : Pulse) (rel : Bool) (s : List ℕ) → length s ≡ storeBytes → V3 r s → After (afterPulse r p rel) (r .packet) s
+unfolding afterPulse pulsed whenIdle whenReceiving whenAwaiting quiet emptied filed restarted
+pulse-v3 r p rel s l v = go (r .stage) refl p v
   where
     go : (t : Stage) → r .stage ≡ t → (q : Pulse) → V3At t r s → After (pulsed t r q rel) (r .packet) s
     go Idle e L.start h = begins 0 0 s (inl (record { none-in = refl; none-due = refl; empty = h .store }))
@@ -182,7 +182,7 @@ unfolding quiet packetsOf
 quiet-idle r m h = absurd (omega arith)
 
 stopped-idle : (r : Rx) → Completes-idle (stopped r)
-unfolding stopped counted
+unfolding stopped expecting
 stopped-idle r =
     either Completes-idle (eqb (r .received) 0)
     (λ e. either Completes-idle (eqb (countOf (r .packet % 256)) 0) (λ z. quiet-idle idle) (λ z. kept-idle r _))
@@ -195,8 +195,8 @@ clocked-idle r b rel =
     (λ e. either Completes-idle (ltb (r .bits) 128) (λ z. quiet-idle (dataBit r b)) (λ z. stopped-idle r))
     (λ e. quiet-idle r)
 
-pub completes-idle : (r : Rx) (p : Pulse) (rel : Bool) → Completes-idle (written r p rel)
-unfolding written pulsed whenIdle whenReceiving whenAwaiting
+pub completes-idle : (r : Rx) (p : Pulse) (rel : Bool) → Completes-idle (afterPulse r p rel)
+unfolding afterPulse pulsed whenIdle whenReceiving whenAwaiting
 completes-idle r p rel = go (r .stage) p
   where
     go : (t : Stage) (q : Pulse) → Completes-idle (pulsed t r q rel)
@@ -217,10 +217,10 @@ completes-idle r p rel = go (r .stage) p
 
 pub wrote-v3 : (u : Port) (v : ℕ) → length (u .store) ≡ storeBytes → V3 (u .rx) (u .store) → V3 (wrote u v .rx) (wrote u v .store)
 unfolding wrote
-wrote-v3 u v l h = written-v3 (u .rx) (pulseOf v) (u .both) (u .store) l h
+wrote-v3 u v l h = pulse-v3 (u .rx) (pulseOf v) (u .both) (u .store) l h
 
 pub wrote-length : (u : Port) (v : ℕ) → length (u .store) ≡ storeBytes → Sound (u .rx) → length (wrote u v .store) ≡ storeBytes
 unfolding wrote
 wrote-length u v l h =
     length-emptied (stepAt u v .done) _
-    (length-filed (stepAt u v .done) (u .rx .packet) (u .store) (good-written (u .rx) (pulseOf v) (u .both) h .1) l)
+    (length-filed (stepAt u v .done) (u .rx .packet) (u .store) (good-pulse (u .rx) (pulseOf v) (u .both) h .1) l)

@@ -12,7 +12,7 @@ use Rattle.receiver.specs.declared.Stage.{Stage}
 use Rattle.receiver.specs.declared.Stage.the-variants.{Idle, Receiving, Awaiting}
 use Rattle.receiver.specs.Lines as L
 use Rattle.receiver.specs.Lines.{Pulse, pulseBy, pulseOf, p14High, p15High, bothHigh}
-use Rattle.receiver.specs.Receive.{Rx, Sound, begun, restarted, quiet, clocked, whenIdle, whenReceiving, whenAwaiting, pulsed, written}
+use Rattle.receiver.specs.Receive.{Rx, Sound, begun, restarted, quiet, clocked, whenIdle, whenReceiving, whenAwaiting, pulsed, afterPulse}
 
 -- ---- which pulse a masked byte is
 
@@ -71,8 +71,8 @@ is-low v h k = go (bit-is (v / 16)) (bit-is (v / 32))
 
 -- ---- the rule by the pulse
 
-pub on-release : (r : Rx) (rel : Bool) → written r L.release rel ≡ quiet r
-unfolding written pulsed whenIdle whenReceiving whenAwaiting
+pub on-release : (r : Rx) (rel : Bool) → afterPulse r L.release rel ≡ quiet r
+unfolding afterPulse pulsed whenIdle whenReceiving whenAwaiting
 on-release r rel = go (r .stage)
   where
     go : (t : Stage) → pulsed t r L.release rel ≡ quiet r
@@ -80,8 +80,8 @@ on-release r rel = go (r .stage)
     go Receiving = refl
     go Awaiting = refl
 
-pub on-start : (r : Rx) (rel : Bool) → Sound r → written r L.start rel ≡ quiet (restarted r)
-unfolding written pulsed whenIdle whenReceiving whenAwaiting restarted
+pub on-start : (r : Rx) (rel : Bool) → Sound r → afterPulse r L.start rel ≡ quiet (restarted r)
+unfolding afterPulse pulsed whenIdle whenReceiving whenAwaiting restarted
 on-start r rel s = go (r .stage) (s .rests)
   where
     go : (t : Stage) → (t ≡ Idle → (r .expected ≡ 0) × (r .received ≡ 0)) → pulsed t r L.start rel ≡ quiet (begun (r .expected) (r .received))
@@ -90,26 +90,26 @@ on-start r rel s = go (r .stage) (s .rests)
     go Awaiting f = refl
 
 -- one line low: no pulse without a release, and none while no packet is coming in
-pub on-low : {p : Pulse} {b : ℕ} (r : Rx) (rel : Bool) → Low p b → r .stage ≡ Receiving → written r p rel ≡ clocked r b rel
-unfolding written pulsed whenReceiving
+pub on-low : {p : Pulse} {b : ℕ} (r : Rx) (rel : Bool) → Low p b → r .stage ≡ Receiving → afterPulse r p rel ≡ clocked r b rel
+unfolding afterPulse pulsed whenReceiving
 on-low r rel low-one e = rw e
 on-low r rel low-zero e = rw e
 
-pub low-idle : {p : Pulse} {b : ℕ} (r : Rx) (rel : Bool) → Low p b → r .stage ≡ Idle → written r p rel ≡ quiet r
-unfolding written pulsed whenIdle
+pub low-idle : {p : Pulse} {b : ℕ} (r : Rx) (rel : Bool) → Low p b → r .stage ≡ Idle → afterPulse r p rel ≡ quiet r
+unfolding afterPulse pulsed whenIdle
 low-idle r rel low-one e = rw e
 low-idle r rel low-zero e = rw e
 
-pub low-awaiting : {p : Pulse} {b : ℕ} (r : Rx) (rel : Bool) → Low p b → r .stage ≡ Awaiting → written r p rel ≡ quiet r
-unfolding written pulsed whenAwaiting
+pub low-awaiting : {p : Pulse} {b : ℕ} (r : Rx) (rel : Bool) → Low p b → r .stage ≡ Awaiting → afterPulse r p rel ≡ quiet r
+unfolding afterPulse pulsed whenAwaiting
 low-awaiting r rel low-one e = rw e
 low-awaiting r rel low-zero e = rw e
 
-pub unreleased : {p : Pulse} {b : ℕ} (r : Rx) → Low p b → written r p false ≡ quiet r
+pub unreleased : {p : Pulse} {b : ℕ} (r : Rx) → Low p b → afterPulse r p false ≡ quiet r
 unfolding clocked
 unreleased {p} r l = go (r .stage) refl
   where
-    go : (t : Stage) → r .stage ≡ t → written r p false ≡ quiet r
+    go : (t : Stage) → r .stage ≡ t → afterPulse r p false ≡ quiet r
     go Idle e = low-idle r false l e
     go Receiving e = on-low r false l e
     go Awaiting e = low-awaiting r false l e

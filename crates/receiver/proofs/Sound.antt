@@ -19,7 +19,7 @@ use Rattle.receiver.specs.declared.Written.{Written}
 use Rattle.receiver.specs.Count.{codeOf, countOf}
 use Rattle.receiver.specs.Lines as L
 use Rattle.receiver.specs.Lines.{Pulse}
-use Rattle.receiver.specs.Receive.{Rx, Step, stepOf, Sound, idle, begun, restarted, dataBit, quiet, kept, counted, stopped, clocked, whenIdle, whenReceiving, whenAwaiting, pulsed, written}
+use Rattle.receiver.specs.Receive.{Rx, Step, stepOf, Sound, idle, begun, restarted, dataBit, quiet, kept, expecting, stopped, clocked, whenIdle, whenReceiving, whenAwaiting, pulsed, afterPulse}
 use Rattle.receiver.specs.Store.{bytesOf, appended, filed, emptied, Fits}
 use Rattle.bits.proofs.Tests.{either}
 use Rattle.receiver.proofs.Words.{length-bytes}
@@ -83,7 +83,7 @@ good-kept r n s h =
     ))
 
 good-stopped : (r : Rx) → Sound r → Good (stopped r)
-unfolding stopped counted
+unfolding stopped expecting
 good-stopped r s =
     either Good (eqb (r .received) 0)
     (λ e. either Good (eqb (countOf (r .packet % 256)) 0)
@@ -100,9 +100,9 @@ good-clocked r b rel k s =
     (λ z. good-stopped r s))
     (λ e. good-quiet r s)
 
-pub good-written : (r : Rx) (p : Pulse) (rel : Bool) → Sound r → Good (written r p rel)
-unfolding written restarted pulsed whenIdle whenReceiving whenAwaiting
-good-written r p rel s = go (r .stage) p
+pub good-pulse : (r : Rx) (p : Pulse) (rel : Bool) → Sound r → Good (afterPulse r p rel)
+unfolding afterPulse restarted pulsed whenIdle whenReceiving whenAwaiting
+good-pulse r p rel s = go (r .stage) p
   where
     go : (t : Stage) (q : Pulse) → Good (pulsed t r q rel)
     go Idle L.start = good-quiet (begun 0 0) (sound-begun 0 0 (lit< tt) (lit≤ tt))
@@ -119,8 +119,8 @@ good-written r p rel s = go (r .stage) p
     go Awaiting L.release = good-quiet r s
 
 -- what the code's write completed has its place
-pub has-place : (w : Written) (r : Rx) (p : Pulse) (rel : Bool) → Sound r → stepOf w ≡ written r p rel → Fits (w .done)
-has-place w r p rel s h = subst⁻¹ (λ (x : Step). Fits (x .done)) h (good-written r p rel s .1)
+pub has-place : (w : Written) (r : Rx) (p : Pulse) (rel : Bool) → Sound r → stepOf w ≡ afterPulse r p rel → Fits (w .done)
+has-place w r p rel s h = subst⁻¹ (λ (x : Step). Fits (x .done)) h (good-pulse r p rel s .1)
 
 -- ---- the store stays 112 bytes long
 

@@ -6,7 +6,7 @@ use mathlib.Core.Bool.{Bool}
 use mathlib.Core.List.{List, [], _∷_}
 use mathlib.Core.Option.{Option, none, some}
 use Rattle.receiver.specs.Lines.{p15High, bothHigh, pulseOf}
-use Rattle.receiver.specs.Receive.{Rx, Step, written}
+use Rattle.receiver.specs.Receive.{Rx, Step, afterPulse}
 use Rattle.receiver.specs.Store.{filed, answerOf, emptied}
 
 pub record Port : Type 0 where
@@ -17,7 +17,7 @@ pub record Port : Type 0 where
 
 -- what a write of v does to the receiver: the old "both high" is `released`
 abbrev pub stepAt : Port → ℕ → Step
-stepAt u v = written (u .rx) (pulseOf v) (u .both)
+stepAt u v = afterPulse (u .rx) (pulseOf v) (u .both)
 
 -- the store with what the write completed
 abbrev pub filedAt : Port → ℕ → List ℕ

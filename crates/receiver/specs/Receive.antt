@@ -68,11 +68,11 @@ kept r n =
     })
 
 -- "on the first packet, expected = count; count 0 goes idle": the first packet's first byte tells how many there are
-unfoldable pub counted : Rx → ℕ → Step
-counted r n = cond (eqb n 0) (quiet idle) (kept r n)
+unfoldable pub expecting : Rx → ℕ → Step
+expecting r n = cond (eqb n 0) (quiet idle) (kept r n)
 
 unfoldable pub stopped : Rx → Step
-stopped r = cond (eqb (r .received) 0) (counted r (countOf (r .packet % 256))) (kept r (r .expected))
+stopped r = cond (eqb (r .received) 0) (expecting r (countOf (r .packet % 256))) (kept r (r .expected))
 
 -- one line low: "if not released: nothing. Else below bit 128 a data bit ..; at bit 128 the stop pulse"
 unfoldable pub clocked : Rx → ℕ → Bool → Step
@@ -106,8 +106,8 @@ pulsed Receiving r p released = whenReceiving r p released
 pulsed Awaiting r p released = whenAwaiting r p
 
 -- a write, by its pulse and whether both lines were high before it
-unfoldable pub written : Rx → Pulse → Bool → Step
-written r p released = pulsed (r .stage) r p released
+unfoldable pub afterPulse : Rx → Pulse → Bool → Step
+afterPulse r p released = pulsed (r .stage) r p released
 
 -- ---- the code's receiver is this one, its packet in two words
 

@@ -5,7 +5,7 @@ ghost use mathlib.Core.Path.{_≡_};
 ghost use Prim.Native.Nat.{_<_};
 ghost use Rattle.receiver.specs.Count.{countOf};
 ghost use Rattle.receiver.specs.Lines.{pulseOf};
-ghost use Rattle.receiver.specs.Receive.{rxOf, stepOf, idle, restarted, dataBit, quiet, kept, stopped, clocked, written, stageNumber, Sound};
+ghost use Rattle.receiver.specs.Receive.{rxOf, stepOf, idle, restarted, dataBit, quiet, kept, stopped, clocked, afterPulse, stageNumber, Sound};
 ghost use mathlib.Core.Bool.{true};
 
 pub mod lines;
@@ -195,7 +195,7 @@ impl Receiver {
     // The tests that nearly always go the same way come first, and none follows the data.
     pub fn write(self, value: u8, released: bool) -> Written
         requires { ⌜ Sound (rxOf self) ⌝ }
-        ensures { λ r. ⌜ stepOf r ≡ written (rxOf self) (pulseOf value) released ⌝ }
+        ensures { λ r. ⌜ stepOf r ≡ afterPulse (rxOf self) (pulseOf value) released ⌝ }
     {
         let lines = value & 0x30;
         if lines == 0x30 {

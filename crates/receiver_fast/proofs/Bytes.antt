@@ -158,9 +158,9 @@ few [] = lit≤ tt
 few (d ∷ ds) = omega (arith, few ds, small5 d)
 
 -- what the code counts
-pub counted : (was : Bool) (d : ℕ) (ds : List ℕ) → length (d ∷ ds) < 255
+pub rises-counted : (was : Bool) (d : ℕ) (ds : List ℕ) → length (d ∷ ds) < 255
     → highs (d ∷ ds) % 255 - bitAnd (highs (d ∷ ds)) (highs (d ∷ ds) / 256) % 255 - stays was d ≡ rose was (d ∷ ds)
-counted was d ds h =
+rises-counted was d ds h =
     let all : List ℕ = d ∷ ds in
     let t = all-told was d ds in
     let l = few all in

@@ -16,7 +16,7 @@ use Rattle.receiver_run.specs.Run.{runs, portOf}
 use Rattle.receiver_run.specs.declared.Lines.{Lines}
 use Rattle.receiver_fast.specs.declared.gather.Gathered.{Gathered}
 use Rattle.receiver_fast.specs.declared.Fed.{Fed}
-use Rattle.receiver_fast.specs.Fast.{rises, live, Feeds, Gave, released, Passed}
+use Rattle.receiver_fast.specs.Fast.{rises, receivingPort, Feeds, Gave, released, Passed}
 use Rattle.receiver_fast.proofs.Rises.{rises-small}
 
 -- the loop of `gather`
@@ -70,8 +70,8 @@ module _ (mask from index idx B P : ℕ) (rx : Receiver) (ws : List ℕ) (g : Ga
       ap (λ (t : Stage). runs mask from index (mk t (rx .bits) (words (rx .lo) (rx .hi))) (drop from ws)) st
       ∙ ap₂ (λ (b p : ℕ). runs mask from index (mk Receiving b p) (drop from ws)) hb hp
       ∙ G .feeds mask from index e r B P s fit
-      ∙ ap₂ (λ (j b : ℕ). runs mask j (rises (g .ones) index mask) (live e r b (P + g .word * 2 ^ B) s) (drop (g .at) ws)) (sym (G .place)) (sym eb)
-      ∙ ap₂ (λ (p x : ℕ). runs mask (g .at) x (live e r qb p s) (drop (g .at) ws)) (sym ew) (sym ho)
+      ∙ ap₂ (λ (j b : ℕ). runs mask j (rises (g .ones) index mask) (receivingPort e r b (P + g .word * 2 ^ B) s) (drop (g .at) ws)) (sym (G .place)) (sym eb)
+      ∙ ap₂ (λ (p x : ℕ). runs mask (g .at) x (receivingPort e r qb p s) (drop (g .at) ws)) (sym ew) (sym ho)
 
   not-idle : {A : Type 0} → Receiving ≡ Idle → A
   not-idle e = let z : _≡_ {A = ℕ} 0 1 = cc in absurd (omega arith)

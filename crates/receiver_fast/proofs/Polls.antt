@@ -22,7 +22,7 @@ use Rattle.receiver_fast.specs.declared.Fed.{Fed}
 use Rattle.receiver_fast.specs.Fast.{rises, Passed}
 use Rattle.receiver_fast.proofs.Rises.{risesAt, rises-add, rises-at, rises-small}
 use Rattle.receiver_fast.proofs.Waits.{passes}
-use Rattle.receiver_fast.proofs.Bytes.{num, same, Small, Calm, calm-none, calm-more, calm, highs, high-bits, rose, counted, enough, first, rises-few}
+use Rattle.receiver_fast.proofs.Bytes.{num, same, Small, Calm, calm-none, calm-more, calm, highs, high-bits, rose, rises-counted, enough, first, rises-few}
 
 -- the lines after some writes
 unfoldable lastHigh : Bool → List ℕ → Bool
@@ -98,7 +98,7 @@ module _ (i x : ℕ) (ws : List ℕ) (bytes : (j : ℕ) → getD ws j 0 < 256) (
   pub high-count : (was : Bool) → high % 255 - bitAnd high (high / 256) % 255 - bitAnd high (cond was 1 0) ≡ rose was eightOf
   unfolding slots
   high-count was =
-      rw (high-is, first was (getD ws (i + 0) 0) (slots 7 1 i ws)) (counted was (getD ws (i + 0) 0) (slots 7 1 i ws) (lit< tt))
+      rw (high-is, first was (getD ws (i + 0) 0) (slots 7 1 i ws)) (rises-counted was (getD ws (i + 0) 0) (slots 7 1 i ws) (lit< tt))
 
   pub rises-in : (was : Bool) → rose was eightOf ≤ 8
   unfolding slots

@@ -16,7 +16,7 @@ use Rattle.receiver.specs.declared.Stage.{Stage}
 use Rattle.receiver.specs.declared.Stage.the-variants.{Idle, Receiving, Awaiting}
 use Rattle.receiver.specs.declared.Receiver.{Receiver}
 use Rattle.receiver.specs.Lines.{Pulse, p15High, bothHigh, pulseOf, indexed}
-use Rattle.receiver.specs.Receive.{Rx, Step, rxOf, Sound, quiet, written, stageNumber}
+use Rattle.receiver.specs.Receive.{Rx, Step, rxOf, Sound, quiet, afterPulse, stageNumber}
 use Rattle.receiver.specs.Store.{filed, packetsOf}
 use Rattle.receiver.specs.Port.{Port}
 use Rattle.receiver.proofs.Pulses.{Low, is-release, is-low, on-release, low-idle, low-awaiting}
@@ -38,20 +38,20 @@ pub waits : (t : Stage) → (stageNumber t ≡ 1 → ⊥) → t ≡ Receiving �
 unfolding stageNumber
 waits t f e = f (ap stageNumber e)
 
-still-low : {p : Pulse} {b : ℕ} (r : Rx) (rel : Bool) → Low p b → (r .stage ≡ Receiving → ⊥) → written r p rel ≡ quiet r
+still-low : {p : Pulse} {b : ℕ} (r : Rx) (rel : Bool) → Low p b → (r .stage ≡ Receiving → ⊥) → afterPulse r p rel ≡ quiet r
 still-low {p} r rel l f = go (r .stage) refl
   where
-    go : (t : Stage) → r .stage ≡ t → written r p rel ≡ quiet r
+    go : (t : Stage) → r .stage ≡ t → afterPulse r p rel ≡ quiet r
     go Idle e = low-idle r rel l e
     go Receiving e = absurd (f e)
     go Awaiting e = low-awaiting r rel l e
 
 -- a write of v with the receiver r, which waits
 module _ (r : Rx) (rel : Bool) (v : ℕ) (f : r .stage ≡ Receiving → ⊥) (g : bitAnd v 0x30 ≡ 0 → ⊥) where
-  still : written r (pulseOf v) rel ≡ quiet r
+  still : afterPulse r (pulseOf v) rel ≡ quiet r
   still = go (eqb (bitAnd v 0x30) 0x30) refl
     where
-      go : (b : Bool) → eqb (bitAnd v 0x30) 0x30 ≡ b → written r (pulseOf v) rel ≡ quiet r
+      go : (b : Bool) → eqb (bitAnd v 0x30) 0x30 ≡ b → afterPulse r (pulseOf v) rel ≡ quiet r
       go true e = rw (is-release v (eqb-true (bitAnd v 0x30) 0x30 e)) (on-release r rel)
       go false e = still-low r rel (is-low v (eqb-false (bitAnd v 0x30) 0x30 e) g) f
 

@@ -22,8 +22,8 @@ rises zero x mask = x
 rises (suc n) x mask = bitAnd (rises n x mask + 1) mask
 
 -- a packet is coming in, and both lines are high
-abbrev pub live : ℕ → ℕ → ℕ → ℕ → List ℕ → Port
-live e r b p s =
+abbrev pub receivingPort : ℕ → ℕ → ℕ → ℕ → List ℕ → Port
+receivingPort e r b p s =
     record {
       p15 = true;
       both = true;
@@ -36,7 +36,7 @@ live e r b p s =
 unfoldable pub Feeds : List ℕ → List ℕ → ℕ → ℕ → ℕ → Type 0
 Feeds ws rest n v o =
     (mask i x e r b p : ℕ) (s : List ℕ) → b + n ≤ 128
-    → runs mask i x (live e r b p s) ws ≡ runs mask (i + 2 * n) (rises o x mask) (live e r (b + n) (p + v * 2 ^ b) s) rest
+    → runs mask i x (receivingPort e r b p s) ws ≡ runs mask (i + 2 * n) (rises o x mask) (receivingPort e r (b + n) (p + v * 2 ^ b) s) rest
 
 -- the pulses that `gather` took, from a place
 pub record Gave (ws : List ℕ) (from : ℕ) (g : Gathered) : Type 0 where

@@ -15,7 +15,7 @@ use Rattle.receiver.specs.Receive.{Sound, idle}
 use Rattle.receiver.specs.Store.{answerOf, emptied, packetsOf, Fits}
 use Rattle.receiver.specs.Port.{Port, stepAt, filedAt, answered, wrote, told, heard}
 use Rattle.receiver.proofs.Keeps.{completes-idle}
-use Rattle.receiver.proofs.Sound.{good-written}
+use Rattle.receiver.proofs.Sound.{good-pulse}
 use Rattle.receiver_run.specs.Run.{Ended, lined, onward, runs, cleared, resumed, Ready}
 use Rattle.receiver_run.proofs.Turns.{ready-lined}
 
@@ -93,7 +93,7 @@ complete mask i x u [] r = record { few = lit< tt; rests = λ n h. absurd (omega
 complete mask i x u (v ∷ vs) r =
     let y : ℕ = indexed x mask (u .p15) v in
     complete-on (packetsOf (stepAt u v .done)) (suc i) y (lined u v) (runs mask (suc i) y (lined u v) vs)
-    (few-packets (stepAt u v .done) (good-written (u .rx) (pulseOf v) (u .both) (r .sound) .1))
+    (few-packets (stepAt u v .done) (good-pulse (u .rx) (pulseOf v) (u .both) (r .sound) .1))
     (completes-idle (u .rx) (pulseOf v) (u .both))
     (complete mask (suc i) y (lined u v) vs (ready-lined u x mask v r))
 
@@ -120,7 +120,7 @@ module _ (u : Port) (v : ℕ) where
   nothing-heard : (vs : List ℕ) → Sound (u .rx) → packetsOf (stepAt u v .done) ≡ 0 → heard u (v ∷ vs) ≡ heard (lined u v) vs
   unfolding heard told answered wrote lined
   nothing-heard vs s e =
-      let t = none-told (stepAt u v .done) (filedAt u v) (good-written (u .rx) (pulseOf v) (u .both) s .1) e in
+      let t = none-told (stepAt u v .done) (filedAt u v) (good-pulse (u .rx) (pulseOf v) (u .both) s .1) e in
       ap (λ (o : Option (List ℕ)). told o (heard (wrote u v) vs)) (t .0)
       ∙ ap (λ (q : List ℕ). heard (with-store q) vs) (t .1)
 

@@ -12,11 +12,11 @@ use lib.Seq.{drop-cons}
 use Rattle.receiver.specs.declared.Receiver.{Receiver}
 use Rattle.receiver.specs.declared.Written.{Written}
 use Rattle.receiver.specs.Lines.{p15High, bothHigh, pulseOf, indexed}
-use Rattle.receiver.specs.Receive.{Rx, Step, words, rxOf, stepOf, written}
+use Rattle.receiver.specs.Receive.{Rx, Step, words, rxOf, stepOf, afterPulse}
 use Rattle.receiver.specs.Store.{filed, packetsOf}
 use Rattle.receiver.specs.Port.{Port, stepAt}
 use Rattle.bits.proofs.Tests.{either}
-use Rattle.receiver.proofs.Sound.{good-written, length-filed}
+use Rattle.receiver.proofs.Sound.{good-pulse, length-filed}
 use Rattle.receiver_run.specs.Run.{Ended, lined, onward, runs, Ready}
 
 pub index-small : (x m : ℕ) (was : Bool) (v : ℕ) → x < 255 → m < 255 → indexed x m was v < 255
@@ -27,7 +27,7 @@ index-small x m was v h k =
 pub ready-lined : (u : Port) (x mask v : ℕ) → Ready u x mask → Ready (lined u v) (indexed x mask (u .p15) v) mask
 unfolding lined
 ready-lined u x mask v r =
-    let g = good-written (u .rx) (pulseOf v) (u .both) (r .sound) in
+    let g = good-pulse (u .rx) (pulseOf v) (u .both) (r .sound) in
     record {
       sound = g .0;
       within = index-small x mask (u .p15) v (r .within) (r .narrow);
@@ -41,7 +41,7 @@ abbrev pub port : Rx → Bool → Bool → List ℕ → Port
 port r p15 both s = record { p15 = p15; both = both; rx = r; store = s }
 
 module _ (w : Written) (rx : Receiver) (p15 both : Bool) (v n : ℕ) (p15′ both′ : Bool) (store store′ : List ℕ)
-    (h : stepOf w ≡ written (rxOf rx) (pulseOf v) both) (a : p15′ ≡ p15High v) (b : both′ ≡ bothHigh v)
+    (h : stepOf w ≡ afterPulse (rxOf rx) (pulseOf v) both) (a : p15′ ≡ p15High v) (b : both′ ≡ bothHigh v)
     (s : store′ ≡ filed (w .done) (words (rx .lo) (rx .hi)) store) (m : n ≡ packetsOf (w .done)) where
   pub same-port : port (rxOf (w .next)) p15′ both′ store′ ≡ lined (port (rxOf rx) p15 both store) v
   unfolding lined

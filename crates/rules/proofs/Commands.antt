@@ -23,7 +23,7 @@ use Rattle.layout.specs.Good.{GoodGame, GoodSnes, SizedIf}
 use Rattle.layout.specs.Block.{isHeld}
 use Rattle.layout.specs.Valid.{maskAllows}
 use Rattle.layout.specs.Sgb.{Game, Snes}
-use Rattle.rules.specs.Carry.{withPalettes, withMap, withMask, withoutMask, plainly, fixedly, withPending, sent, carriedGame, carriedSnes}
+use Rattle.rules.specs.Carry.{withPalettes, withMap, withMask, withoutMask, plainly, fixedly, withPending, fixedSnes, carriedGame, carriedSnes}
 use Rattle.rules.proofs.Pads.{pads-good, mlt-few, mlt-within}
 
 -- ---- one place of the game's part
@@ -113,7 +113,7 @@ drop-keeps m few n = plain-keeps _ (λ g h. mask-good g m none h few (allowed m 
         go false = rw (ne-eqb k 1 q)
 
 freeze-keeps : Keeps (command.fixed command.freeze)
-unfolding carriedGame carriedSnes fixedly sent isHeld maskAllows
+unfolding carriedGame carriedSnes fixedly fixedSnes isHeld maskAllows
 freeze-keeps = record { game = λ s g hs h. mask-good g 1 (some (s .live)) h (lit≤ tt) refl (hs .live); snes = λ s h. h }
 
 masking-keeps : (m : ℕ) → m ≤ 3 → Keeps (masking m)
@@ -124,12 +124,12 @@ masking-keeps m few = go (eqb m 1) refl
     go true q = freeze-keeps
     go false q = drop-keeps m few (eqb-false m 1 q)
 
-set-keeps : (c : command.Fixed) → ((s : Snes) (g : Game) → GoodSnes s → GoodGame g → GoodGame (fixedly c s g)) → ((s : Snes) → sent c s ≡ s) → Keeps (command.fixed c)
+set-keeps : (c : command.Fixed) → ((s : Snes) (g : Game) → GoodSnes s → GoodGame g → GoodGame (fixedly c s g)) → ((s : Snes) → fixedSnes c s ≡ s) → Keeps (command.fixed c)
 unfolding carriedGame carriedSnes
 set-keeps c f e = record { game = f; snes = λ s h. rw (e s) h }
 
 transfer-keeps : (t : Transfer) → Keeps (command.fixed (command.transfer t))
-unfolding carriedGame carriedSnes fixedly sent withPending
+unfolding carriedGame carriedSnes fixedly fixedSnes withPending
 transfer-keeps t = record {
   game = λ s g hs h. h;
   snes =
@@ -159,7 +159,7 @@ find-all P k (r ∷ rs) (more p ps) z = either (eqb k (r .code)) (find-all P k r
     either false q = q
 
 pub command-keeps : (d : List ℕ) → 16 ≤ length d → Keeps (decode d)
-unfolding decode plainly fixedly sent
+unfolding decode plainly fixedly fixedSnes
 command-keeps d l =
     find-all Keeps (codeOf (getD d 0 0)) (table d)
     (more (pair-keeps 0 1 d (lit< tt) (lit< tt) l)

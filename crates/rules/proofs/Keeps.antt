@@ -16,7 +16,7 @@ use Rattle.receiver.specs.Store.{answerOf, Fits}
 use Rattle.receiver.specs.declared.Done.{Done}
 use Rattle.receiver.specs.declared.Done.the-variants.{Nothing, Packet, Command}
 use Rattle.receiver.proofs.Keeps.{v3-sound, wrote-v3, wrote-length}
-use Rattle.receiver.proofs.Sound.{good-written as receiver-good, length-filed}
+use Rattle.receiver.proofs.Sound.{good-pulse, length-filed}
 use Rattle.transfer.specs.Pending as pending
 use Rattle.transfer.specs.Page.{pageBytes, pageOf}
 use Rattle.transfer.specs.Landing.{palettesLanded, filesLanded, tilesLanded, mapLanded}
@@ -79,7 +79,7 @@ pub answered-whole : (p : Port) (v : ℕ) → GoodPort p → WholeIf (answered p
 unfolding answered
 answered-whole p v h =
     let sound = v3-sound (p .rx) (p .store) (h .receiver) in
-    let fits = receiver-good (p .rx) (pulseOf v) (p .both) sound .1 in
+    let fits = good-pulse (p .rx) (pulseOf v) (p .both) sound .1 in
     go (stepAt p v .done) (filedAt p v) fits (length-filed (stepAt p v .done) (p .rx .packet) (p .store) fits (h .store))
   where
     go : (d : Done) (s : List ℕ) → Fits d → length s ≡ storeBytes → WholeIf (answerOf d s)
@@ -113,8 +113,8 @@ good-written u v g = good-carried (carries (u .port) v) (stepped u v) (carries-k
 
 -- ---- a screen
 
-pending-kept : (p : Pending) → GoodPending p → GoodPending (pending.screened p)
-unfolding pending.screened
+pending-kept : (p : Pending) → GoodPending p → GoodPending (pending.fallen p)
+unfolding pending.fallen
 pending-kept P.Nothing h = tt
 pending-kept (P.In n t) h = go (leb n 1) refl
   where

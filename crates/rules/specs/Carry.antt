@@ -100,11 +100,11 @@ withPending p s = record {
 }
 
 -- "pending kinds .., countdown 3, replacing any before it"
-unfoldable pub sent : Fixed → Snes → Snes
-sent (command.palSet d) s = s
-sent (command.attrSet d) s = s
-sent command.freeze s = s
-sent (command.transfer t) s = withPending (In 3 t) s
+unfoldable pub fixedSnes : Fixed → Snes → Snes
+fixedSnes (command.palSet d) s = s
+fixedSnes (command.attrSet d) s = s
+fixedSnes command.freeze s = s
+fixedSnes (command.transfer t) s = withPending (In 3 t) s
 
 -- ---- any command
 
@@ -114,7 +114,7 @@ carriedGame (command.fixed c) s g = fixedly c s g
 
 unfoldable pub carriedSnes : Command → Snes → Snes
 carriedSnes (command.plain c) s = s
-carriedSnes (command.fixed c) s = sent c s
+carriedSnes (command.fixed c) s = fixedSnes c s
 
 -- a command carried out: the port is what told it, and stays
 unfoldable pub carried : Command → Sgb → Sgb

@@ -16,7 +16,7 @@ use Rattle.layout.specs.Sgb.{Sgb, Snes}
 -- the live capture is the screen, and the countdown has gone on
 unfoldable pub captured : List ℕ → Snes → Snes
 captured x s = record {
-  pending = pending.screened (s .pending);
+  pending = pending.fallen (s .pending);
   live = x;
   system = s .system;
   files = s .files;
@@ -81,7 +81,7 @@ landed (Page BorderMap) x s = withBorder (mapLanded x) s
 
 -- the kind landed, or none
 unfoldable pub landing : Snes → Landed
-landing s = pending.landing (s .pending)
+landing s = pending.lands (s .pending)
 
 unfoldable pub shown : Snes → List ℕ → Snes
 shown s x = landed (landing s) x (captured x s)

@@ -63,8 +63,8 @@ pub extern "C" fn probe_land_map(part: &mut [u8], screen: &[u8])
 #[no_mangle]
 pub extern "C" fn probe_screened(countdown: u8, kind: u8) -> u32 {
     let p = Pending::load(countdown, kind);
-    let landed = landed_kind(p.landing());
-    let left = p.screened();
+    let landed = landed_kind(p.lands());
+    let left = p.fall();
     (left.countdown() as u32) << 16 | (left.kind() as u32) << 8 | landed as u32
 }
 

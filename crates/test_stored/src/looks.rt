@@ -8,7 +8,7 @@ use test_seeds::stream;
 
 pub fn look(round: usize, block: &[u8], h: u64) -> u64 {
     let x = stream(round, 5);
-    let a = counted(h, view::mask_mode(block));
+    let a = with_number(h, view::mask_mode(block));
     let b = colour(a, view::backdrop(block));
     let c = some(b, block, x);
     let d = row(c, block, below(x, 224));
@@ -44,13 +44,13 @@ fn at(h: u64, block: &[u8], x: u64) -> u64 {
 
 fn row(h: u64, block: &[u8], y: usize) -> u64 {
     let mut out = [0u16; 256];
-    let d = counted(h, view::row(block, y, &mut out));
+    let d = with_number(h, view::row(block, y, &mut out));
     words(d, &out)
 }
 
 fn picture(h: u64, block: &[u8]) -> u64 {
     let mut out = [0u16; 57344];
-    let d = counted(h, view::picture(block, &mut out));
+    let d = with_number(h, view::picture(block, &mut out));
     words(d, &out)
 }
 
@@ -59,7 +59,7 @@ fn refused(h: u64, n: u8) -> u64 {
     number(h, 0x80000000 + (n as u64))
 }
 
-fn counted(h: u64, told: view::Number) -> u64 {
+fn with_number(h: u64, told: view::Number) -> u64 {
     match told {
         view::Number::Refused(n) => refused(h, n),
         view::Number::Is(v) => number(h, v as u64),

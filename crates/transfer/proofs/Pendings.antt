@@ -10,8 +10,8 @@ use Rattle.transfer.specs.declared.pending.Transfer.{Transfer}
 use Rattle.transfer.specs.declared.pending.Transfer.the-variants.{Palettes, Attributes, BorderTiles, BorderMap}
 use Rattle.transfer.specs.declared.pending.Pending.the-variants.{Nothing, In}
 use Rattle.transfer.specs.declared.pending.Landed.{Landed}
-use Rattle.transfer.specs.declared.pending.Landed.the-variants as landed
-use Rattle.transfer.specs.Pending.{numberOf, countdownOf, kindOf, named, pendingOf, screened, landing, landedOf}
+use Rattle.transfer.specs.declared.pending.Landed.the-variants as page
+use Rattle.transfer.specs.Pending.{numberOf, countdownOf, kindOf, named, pendingOf, fallen, lands, landedOf}
 
 -- a pending transfer that is written out and read again
 pub kind-read-back : (n : ℕ) (t : Transfer) → 0 < n → pendingOf n (numberOf t) ≡ In n t
@@ -33,10 +33,10 @@ kind-once s t e =
 
 pub landed-once : (l m : Landed) → landedOf l ≡ landedOf m → l ≡ m
 unfolding landedOf
-landed-once landed.Nothing landed.Nothing e = refl
-landed-once landed.Nothing (landed.Page t) e = cc
-landed-once (landed.Page s) landed.Nothing e = cc
-landed-once (landed.Page s) (landed.Page t) e = ap landed.Page (kind-once s t (cc))
+landed-once page.Nothing page.Nothing e = refl
+landed-once page.Nothing (page.Page t) e = cc
+landed-once (page.Page s) page.Nothing e = cc
+landed-once (page.Page s) (page.Page t) e = ap page.Page (kind-once s t (cc))
 
 -- the two bytes of a valid block (V4), read and written out again
 pub bytes-kept : (n k : ℕ) → 0 < n → k < 5 → (countdownOf (pendingOf n k) ≡ n) × (kindOf (pendingOf n k) ≡ k)
@@ -58,9 +58,9 @@ nothing-kept k = refl
 
 -- a transfer command sets the countdown to 3: two screens answer none, the third lands, and nothing is left
 pub third-screen : (t : Transfer)
-    → (landing (In 3 t) ≡ landed.Nothing)
-    × (landing (screened (In 3 t)) ≡ landed.Nothing)
-    × (landing (screened (screened (In 3 t))) ≡ landed.Page t)
-    × (screened (screened (screened (In 3 t))) ≡ Nothing)
-unfolding screened landing
+    → (lands (In 3 t) ≡ page.Nothing)
+    × (lands (fallen (In 3 t)) ≡ page.Nothing)
+    × (lands (fallen (fallen (In 3 t))) ≡ page.Page t)
+    × (fallen (fallen (fallen (In 3 t))) ≡ Nothing)
+unfolding fallen lands
 third-screen t = (refl, refl, refl, refl)

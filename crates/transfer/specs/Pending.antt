@@ -9,7 +9,7 @@ use Rattle.transfer.specs.declared.pending.Transfer.the-variants.{Palett
 use Rattle.transfer.specs.declared.pending.Pending.{Pending}
 use Rattle.transfer.specs.declared.pending.Pending.the-variants.{Nothing, In}
 use Rattle.transfer.specs.declared.pending.Landed.{Landed}
-use Rattle.transfer.specs.declared.pending.Landed.the-variants as landed
+use Rattle.transfer.specs.declared.pending.Landed.the-variants as page
 
 -- the number of each kind (Commands: "pending kinds 0, 1, 2 (3 if d1 bit 0), 4"; the border kind holds its half)
 unfoldable pub numberOf : Transfer → ℕ
@@ -42,16 +42,16 @@ unfoldable pub pendingOf : ℕ → ℕ → Pending
 pendingOf n kind = cond (eqb n 0) Nothing (named n kind)
 
 -- a screen: countdown 1 lands, else it falls by one (a countdown of 0 is in no valid block; the Rust lands it too)
-unfoldable pub screened : Pending → Pending
-screened Nothing = Nothing
-screened (In n t) = cond (leb n 1) Nothing (In (n - 1) t)
+unfoldable pub fallen : Pending → Pending
+fallen Nothing = Nothing
+fallen (In n t) = cond (leb n 1) Nothing (In (n - 1) t)
 
 -- the answer: the kind landed, or none
-unfoldable pub landing : Pending → Landed
-landing Nothing = landed.Nothing
-landing (In n t) = cond (leb n 1) (landed.Page t) landed.Nothing
+unfoldable pub lands : Pending → Landed
+lands Nothing = page.Nothing
+lands (In n t) = cond (leb n 1) (page.Page t) page.Nothing
 
 -- the same by its number
 unfoldable pub landedOf : Landed → Option ℕ
-landedOf landed.Nothing = none
-landedOf (landed.Page t) = some (numberOf t)
+landedOf page.Nothing = none
+landedOf (page.Page t) = some (numberOf t)

@@ -1,7 +1,7 @@
 // What the next screens are awaited for: a transfer and its countdown.
 // Document 01, Screens, border and picture ("If pending: countdown 1 lands, else it falls by one"); Rust: `PendingTransfer`, `update_screen`.
 ghost use mathlib.Core.Path.{_≡_};
-ghost use Rattle.transfer.specs.Pending.{numberOf, pendingOf, countdownOf, kindOf, screened, landing};
+ghost use Rattle.transfer.specs.Pending.{numberOf, pendingOf, countdownOf, kindOf, fallen, lands};
 
 pub enum Transfer {
     Palettes,
@@ -104,8 +104,8 @@ impl Pending {
     }
 
     // What is left pending after a screen.
-    pub fn screened(self) -> Pending
-        ensures { λ r. ⌜ r ≡ screened self ⌝ }
+    pub fn fall(self) -> Pending
+        ensures { λ r. ⌜ r ≡ fallen self ⌝ }
     {
         match self {
             Pending::Nothing => Pending::Nothing,
@@ -125,8 +125,8 @@ impl Pending {
     }
 
     // What that screen makes land.
-    pub fn landing(self) -> Landed
-        ensures { λ r. ⌜ r ≡ landing self ⌝ }
+    pub fn lands(self) -> Landed
+        ensures { λ r. ⌜ r ≡ lands self ⌝ }
     {
         match self {
             Pending::Nothing => Landed::Nothing,

@@ -17,7 +17,7 @@ use Rattle.rules.specs.Write.{written, answer}
 use Rattle.rules.specs.Screen.{screened, landing}
 use Rattle.block_write.specs.Bytes.{handed}
 use Rattle.view.proofs.Refusals.{answers, keeps, draws}
-use Rattle.unit.specs.Calls.{counted, writeAnswer, writeBlock, writeCommand, screenAnswer, screenBlock, freshAnswer, newBlock, postBootBlock}
+use Rattle.unit.specs.Calls.{packetsAnswered, writeAnswer, writeBlock, writeCommand, screenAnswer, screenBlock, freshAnswer, newBlock, postBootBlock}
 
 -- ---- a write
 
@@ -29,15 +29,15 @@ module _ (b : List ℕ) (v : ℕ) (command : List ℕ) where
   pub write-short : Valid b → length command < storeBytes → refused 6 ≡ writeAnswer b v command
   write-short k h =
       unfold writeAnswer in
-      sym (ap (λ t. cond t (given (counted (answer (load b) v))) (refused 6)) (lt-leb storeBytes (length command) h)) ∙ answers b _ k
+      sym (ap (λ t. cond t (given (packetsAnswered (answer (load b) v))) (refused 6)) (lt-leb storeBytes (length command) h)) ∙ answers b _ k
 
-  write-is : (a : Option ℕ) → Valid b → storeBytes ≤ length command → counted (answer (load b) v) ≡ a → given a ≡ writeAnswer b v command
+  write-is : (a : Option ℕ) → Valid b → storeBytes ≤ length command → packetsAnswered (answer (load b) v) ≡ a → given a ≡ writeAnswer b v command
   write-is a k h e =
       unfold writeAnswer in
       ap given (sym e)
-      ∙ sym (ap (λ t. cond t (given (counted (answer (load b) v))) (refused 6)) (le-leb storeBytes (length command) h)) ∙ answers b _ k
+      ∙ sym (ap (λ t. cond t (given (packetsAnswered (answer (load b) v))) (refused 6)) (le-leb storeBytes (length command) h)) ∙ answers b _ k
 
-  pub write-given : (a : Option ℕ) (block buffer : List ℕ) → Valid b → storeBytes ≤ length command → counted (answer (load b) v) ≡ a
+  pub write-given : (a : Option ℕ) (block buffer : List ℕ) → Valid b → storeBytes ≤ length command → packetsAnswered (answer (load b) v) ≡ a
       → block ≡ save (written (load b) v) → buffer ≡ handed (answer (load b) v) command
       → (given a ≡ writeAnswer b v command) × ((block ≡ writeBlock b v command) × (buffer ≡ writeCommand b v command))
   write-given a block buffer k h e p q =

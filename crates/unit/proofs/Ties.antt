@@ -14,7 +14,7 @@ use Rattle.screen.specs.Packed.{pairAt, cellAt}
 use Rattle.pulses.specs.Bytes.{malformed}
 use Rattle.pulses.specs.Bytes as pulses
 use Rattle.pulses.proofs.Commands.{formed}
-use Rattle.block_write.specs.Bytes.{packetsIn}
+use Rattle.block_write.specs.Bytes.{packetsTold}
 
 -- the picture finds a cell by its number, the commands by its row and column: twenty cells fill five bytes
 pub cell-alike : (b : List ℕ) (x y : ℕ) → cellAt b x y ≡ map.packedCell b x y
@@ -31,6 +31,6 @@ cell-drawn {m} s h x y hx hy =
     cell-alike (pack m) x y ∙ sym (unpack-cell (pack m) x y hx hy) ∙ ap (λ (l : List (List ℕ)). cell l x y) (unpack-pack s h)
 
 -- the packets that a write answers of a command are those that the command's first byte tells (refusal 5 holds the two together)
-pub packets-alike : (c : List ℕ) → malformed c ≡ false → packetsIn (some c) ≡ pulses.packetsIn c
-unfolding packetsIn
+pub packets-alike : (c : List ℕ) → malformed c ≡ false → packetsTold (some c) ≡ pulses.packetsIn c
+unfolding packetsTold
 packets-alike c h = let e : length c ≡ 16 * pulses.packetsIn c = formed c h .whole in omega arith

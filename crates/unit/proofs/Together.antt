@@ -19,15 +19,15 @@ use Rattle.layout.proofs.Goods.{valid-good, good-valid}
 use Rattle.rules.specs.Write.{written, answer}
 use Rattle.rules.specs.Screen.{screened, landing}
 use Rattle.rules.proofs.Keeps.{good-written, good-screened}
-use Rattle.order.specs.Log.{Event, write, screen, accepts, Seen, seen, Aligned}
+use Rattle.order.specs.Log.{Act, write, screen, accepts, Seen, seen, Aligned}
 use Rattle.order.specs.Log as log
 use Rattle.order.specs.Blocks.{Called, calledWrite, calledScreen, writtenBlock, seenBlock, calls}
 use Rattle.order.proofs.BlockOrder.{block-order}
 use Rattle.block_write.specs.Bytes.{handed}
 use Rattle.view.specs.Looks.{leaves}
 use Rattle.view.proofs.Refusals.{answers}
-use Rattle.unit.specs.Calls.{counted, writeAnswer, writeBlock, writeCommand, screenAnswer, screenBlock}
-use Rattle.unit.specs.Together.{Done, doneWrite, doneScreen, performed}
+use Rattle.unit.specs.Calls.{packetsAnswered, writeAnswer, writeBlock, writeCommand, screenAnswer, screenBlock}
+use Rattle.unit.specs.Together.{Performed, doneWrite, doneScreen, performed}
 use Rattle.unit.proofs.Writes.{length-handed, answer-whole}
 
 -- ---- one call
@@ -35,10 +35,10 @@ use Rattle.unit.proofs.Writes.{length-handed, answer-whole}
 held : (b : List ℕ) → valid b ≡ true → Valid b
 held b v = record { long = clauses b v .long; tested = v }
 
-write-taken : (b : List ℕ) (v : ℕ) (buffer : List ℕ) → valid b ≡ true → storeBytes ≤ length buffer → writeAnswer b v buffer ≡ given (counted (answer (load b) v))
+write-taken : (b : List ℕ) (v : ℕ) (buffer : List ℕ) → valid b ≡ true → storeBytes ≤ length buffer → writeAnswer b v buffer ≡ given (packetsAnswered (answer (load b) v))
 unfolding writeAnswer
 write-taken b v buffer k h =
-    sym (answers b _ (held b k)) ∙ ap (λ t. cond t (given (counted (answer (load b) v))) (refused 6)) (le-leb storeBytes (length buffer) h)
+    sym (answers b _ (held b k)) ∙ ap (λ t. cond t (given (packetsAnswered (answer (load b) v))) (refused 6)) (le-leb storeBytes (length buffer) h)
 
 -- what a screen answers, of a valid block
 sightOf : Seen → Answer (Option ℕ)
@@ -84,16 +84,16 @@ filled : List (Option (List ℕ)) → List ℕ → List ℕ
 filled [] buffer = buffer
 filled (a ∷ l) buffer = filled l (handed a buffer)
 
-doneOf : List ℕ → Called → Done
+doneOf : List ℕ → Called → Performed
 doneOf buffer o =
-    record { block = o .block; buffer = filled (o .answers) buffer; answers = map (λ a. given (counted a)) (o .answers); sights = map sightOf (o .sights) }
+    record { block = o .block; buffer = filled (o .answers) buffer; answers = map (λ a. given (packetsAnswered a)) (o .answers); sights = map sightOf (o .sights) }
 
-performed-calls : (b buffer : List ℕ) (l : List Event) → valid b ≡ true → storeBytes ≤ length buffer → performed b buffer l ≡ doneOf buffer (calls b l)
+performed-calls : (b buffer : List ℕ) (l : List Act) → valid b ≡ true → storeBytes ≤ length buffer → performed b buffer l ≡ doneOf buffer (calls b l)
 unfolding performed calls doneOf filled doneWrite doneScreen calledWrite calledScreen writeBlock writeCommand leaves writtenBlock
 performed-calls b buffer [] k h = refl
 performed-calls b buffer (write v ∷ l) k h =
     ap (λ a. doneWrite a (performed (leaves a (save (written (load b) v)) b) (leaves a (handed (answer (load b) v) buffer) buffer) l)) (write-taken b v buffer k h)
-    ∙ ap (doneWrite (given (counted (answer (load b) v))))
+    ∙ ap (doneWrite (given (packetsAnswered (answer (load b) v))))
     (performed-calls (writtenBlock b v) (handed (answer (load b) v) buffer) l (written-valid b v k) (omega (arith, handed-long b v buffer k h)))
 performed-calls b buffer (screen x ∷ l) k h =
     (λ t. doneScreen (screen-taken b x k t) (performed (screen-left b x k t) buffer l))
@@ -101,5 +101,5 @@ performed-calls b buffer (screen x ∷ l) k h =
 
 -- demand 3: a valid block, a buffer with room, and two logs with the same writes and the same screens in which each fixed write has equally
 -- many screens before it: the same block, the same buffer, and the same answer to each write and to each screen
-pub calls-order : (k buffer : List ℕ) → valid k ≡ true → storeBytes ≤ length buffer → (a b : List Event) → Aligned (load k) a b → performed k buffer a ≡ performed k buffer b
+pub calls-order : (k buffer : List ℕ) → valid k ≡ true → storeBytes ≤ length buffer → (a b : List Act) → Aligned (load k) a b → performed k buffer a ≡ performed k buffer b
 calls-order k buffer v h a b e = performed-calls k buffer a v h ∙ ap (doneOf buffer) (block-order k v a b e) ∙ sym (performed-calls k buffer b v h)

@@ -18,14 +18,14 @@ use Rattle.layout.proofs.Goods.{valid-good, good-back, saved-valid}
 use Rattle.rules.specs.Carry.{plainly, carriedGame, carriedSnes, carried}
 use Rattle.rules.specs.Write.{meant, carries, stepped, written, answer}
 use Rattle.rules.proofs.Keeps.{WholeIf, complete-whole, answered-whole, good-stepped}
-use Rattle.block_write.specs.Bytes.{handed, packetsIn}
+use Rattle.block_write.specs.Bytes.{handed, packetsTold}
 use Rattle.block_command.specs.Carrying.{carriedBlock}
-use Rattle.unit.specs.Calls.{counted}
+use Rattle.unit.specs.Calls.{packetsAnswered}
 
 -- ---- the command that is complete, or none
 
-pub nothing-in : (o : Option (List ℕ)) → WholeIf o → packetsIn o ≡ 0 → o ≡ none
-unfolding packetsIn
+pub nothing-in : (o : Option (List ℕ)) → WholeIf o → packetsTold o ≡ 0 → o ≡ none
+unfolding packetsTold
 nothing-in none w e = refl
 nothing-in (some d) w e = absurd (omega (arith, w .least))
 
@@ -36,7 +36,7 @@ length-handed none buffer w h = refl
 length-handed (some d) buffer w h = simp (length-append, length-drop) (omega (arith, w .most))
 
 -- none: there is nothing to carry out
-pub none-carried : (o : Option (List ℕ)) → WholeIf o → packetsIn o ≡ 0 → (u : Sgb) → u ≡ carried (meant o) u
+pub none-carried : (o : Option (List ℕ)) → WholeIf o → packetsTold o ≡ 0 → (u : Sgb) → u ≡ carried (meant o) u
 unfolding meant carried carriedGame carriedSnes plainly
 none-carried o w e u = sym (ap (λ (p : Option (List ℕ)). carried (meant p) u) (nothing-in o w e))
 
@@ -44,11 +44,11 @@ none-carried o w e u = sym (ap (λ (p : Option (List ℕ)). carried (meant p) u)
 pub record Front (o : Option (List ℕ)) (n : ℕ) (buffer : List ℕ) : Type 0 where
   pub whole : Whole (take (16 * n) buffer)
   pub room : 16 * n ≤ length buffer
-  pub told : counted o ≡ some n
+  pub told : packetsAnswered o ≡ some n
   pub means : meant o ≡ decode (take (16 * n) buffer)
 
-pub front : (o : Option (List ℕ)) (n : ℕ) (before buffer : List ℕ) → WholeIf o → n ≡ packetsIn o → (n ≡ 0 → ⊥) → buffer ≡ handed o before → Front o n buffer
-unfolding packetsIn handed counted meant
+pub front : (o : Option (List ℕ)) (n : ℕ) (before buffer : List ℕ) → WholeIf o → n ≡ packetsTold o → (n ≡ 0 → ⊥) → buffer ≡ handed o before → Front o n buffer
+unfolding packetsTold handed packetsAnswered meant
 front none n before buffer w q some-in h = absurd (some-in q)
 front (some d) n before buffer w q some-in h =
     let b : take (16 * n) buffer ≡ d = ap (take (16 * n)) h ∙ take-at d (drop (length d) before) (16 * n) (omega (arith, q, w .packets)) in
@@ -74,15 +74,15 @@ pub answer-whole : (u : Sgb) (v : ℕ) → Good u → WholeIf (answer u v)
 unfolding answer
 answer-whole u v g = answered-whole (u .port) v (g .port)
 
-pub nothing-said : (u : Sgb) (v : ℕ) → Good u → packetsIn (answer u v) ≡ 0 → save (stepped u v) ≡ save (written u v)
+pub nothing-said : (u : Sgb) (v : ℕ) → Good u → packetsTold (answer u v) ≡ 0 → save (stepped u v) ≡ save (written u v)
 unfolding written carries answer
 nothing-said u v g e = ap save (none-carried (answer u v) (answer-whole u v g) e (stepped u v))
 
-pub none-answered : (u : Sgb) (v : ℕ) → Good u → packetsIn (answer u v) ≡ 0 → counted (answer u v) ≡ none
-unfolding counted
-none-answered u v g e = ap counted (nothing-in (answer u v) (answer-whole u v g) e)
+pub none-answered : (u : Sgb) (v : ℕ) → Good u → packetsTold (answer u v) ≡ 0 → packetsAnswered (answer u v) ≡ none
+unfolding packetsAnswered
+none-answered u v g e = ap packetsAnswered (nothing-in (answer u v) (answer-whole u v g) e)
 
-pub said : (u : Sgb) (v n : ℕ) (before buffer : List ℕ) → Good u → n ≡ packetsIn (answer u v) → (n ≡ 0 → ⊥) → buffer ≡ handed (answer u v) before → Front (answer u v) n buffer
+pub said : (u : Sgb) (v n : ℕ) (before buffer : List ℕ) → Good u → n ≡ packetsTold (answer u v) → (n ≡ 0 → ⊥) → buffer ≡ handed (answer u v) before → Front (answer u v) n buffer
 said u v n before buffer g = front (answer u v) n before buffer (answer-whole u v g)
 
 -- the block between the two is valid

@@ -14,19 +14,19 @@ use Rattle.layout.specs.Block.{load, save}
 use Rattle.layout.specs.Fresh.{new, postBoot}
 use Rattle.rules.specs.Write.{written, answer}
 use Rattle.rules.specs.Screen.{screened, landing}
-use Rattle.block_write.specs.Bytes.{handed, packetsIn}
+use Rattle.block_write.specs.Bytes.{handed, packetsTold}
 use Rattle.view.specs.Refusal.{refusing}
 use Rattle.view.specs.Looks.{leaves}
 
 -- ---- a joypad write, with a buffer for the command that it may complete: refusals 1, 2, 6 (112)
 
 -- the packets of a command that is complete: its bytes stand at the front of the buffer
-unfoldable pub counted : Option (List ℕ) → Option ℕ
-counted none = none
-counted (some d) = some (packetsIn (some d))
+unfoldable pub packetsAnswered : Option (List ℕ) → Option ℕ
+packetsAnswered none = none
+packetsAnswered (some d) = some (packetsTold (some d))
 
 unfoldable pub writeAnswer : List ℕ → ℕ → List ℕ → Answer (Option ℕ)
-writeAnswer b v command = refusing b (cond (leb storeBytes (length command)) (given (counted (answer (load b) v))) (refused 6))
+writeAnswer b v command = refusing b (cond (leb storeBytes (length command)) (given (packetsAnswered (answer (load b) v))) (refused 6))
 
 unfoldable pub writeBlock : List ℕ → ℕ → List ℕ → List ℕ
 writeBlock b v command = leaves (writeAnswer b v command) (save (written (load b) v)) b

@@ -11,7 +11,7 @@ ghost use Rattle.layout.specs.Block.{load, save};
 ghost use Rattle.layout.specs.Valid.{Valid};
 ghost use Rattle.rules.specs.Write.{written, answer};
 ghost use Rattle.view.specs.Refusal.{refusalOf};
-ghost use Rattle.block_write.specs.Bytes.{handed, packetsIn};
+ghost use Rattle.block_write.specs.Bytes.{handed, packetsTold};
 ghost use Rattle.block_command.specs.Carrying.{carriedBlock};
 ghost use Rattle.unit.specs.Calls.{writeAnswer, writeBlock, writeCommand, screenAnswer, screenBlock, freshAnswer, newBlock, postBootBlock};
 ghost use Rattle.unit.specs.Answers.{writtenTold, shownTold};
@@ -53,7 +53,7 @@ pub fn write_joypad(block: &mut [u8], value: u8, command: &mut [u8]) -> Written
 // The same on a valid block, with room for a command: answers the packets of the command that is complete, or 0.
 pub fn write(block: &mut [u8], value: u8, command: &mut [u8]) -> u8
     requires { ⌜ Valid (now block) × (storeBytes ≤ length (now command)) ⌝ }
-    ensures { λ r. ⌜ r ≡ packetsIn (answer (load (now (block .entry))) value) ⌝ }
+    ensures { λ r. ⌜ r ≡ packetsTold (answer (load (now (block .entry))) value) ⌝ }
     ensures { λ _. ⌜ now (block .exit) ≡ save (written (load (now (block .entry))) value) ⌝ }
     ensures { λ _. ⌜ now (command .exit) ≡ handed (answer (load (now (block .entry))) value) (now (command .entry)) ⌝ }
 {

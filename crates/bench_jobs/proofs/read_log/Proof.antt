@@ -70,7 +70,7 @@ loop-holds c =
       record {
         fit = boot-fit (desk (now (start .args .block)) (now (start .args .line)) (now (start .args .bytes)) (now (start .args .command))) _ _ (start .pre .0) (b .ensures) (c .begin .ensures);
         within = omega arith;
-        counted = omega (arith, ap (λ (r : Reading). r .number) (c .begin .ensures));
+        numbered = omega (arith, ap (λ (r : Reading). r .number) (c .begin .ensures));
         roomy = omega arith;
       },
       (omega arith, (refl, (refl, (refl, (refl, refl))))),
@@ -116,7 +116,7 @@ fill-requires : tie.Need-fill-requires Inv-loop μ-loop
 fill-requires c κs =
     let i = c .before .before .before .before .before .before .before .before .before .loop .inv .0 in
     let m = c .before .before .before .before .before .before .chunk-size .ensures .1 .0 in
-    (i .fit, ((omega (arith, chunk-long c, m, i .counted, i .within, c .before .before .before .before .before .before .before .before .before .before .before .before .before .before .before .before .before .before .before .before .before .pre .1), (omega arith, omega (arith, chunk-long c, m))), omega (arith, out-long c)))
+    (i .fit, ((omega (arith, chunk-long c, m, i .numbered, i .within, c .before .before .before .before .before .before .before .before .before .before .before .before .before .before .before .before .before .before .before .before .before .pre .1), (omega arith, omega (arith, chunk-long c, m))), omega (arith, out-long c)))
 
 add-at : tie.Need-add-at Inv-loop μ-loop
 add-at c =

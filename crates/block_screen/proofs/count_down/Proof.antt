@@ -17,8 +17,8 @@ slice-read-load-2 c = search needs
 load-requires : tie.Need-load-requires
 load-requires c κs = search needs
 
-screened-requires : tie.Need-screened-requires
-screened-requires c κs = search needs
+fall-requires : tie.Need-fall-requires
+fall-requires c κs = search needs
 
 countdown-requires : tie.Need-countdown-requires
 countdown-requires c κs = search needs
@@ -32,8 +32,8 @@ kind-requires c κs = search needs
 slice-write-block-2 : tie.Need-slice-write-block-2
 slice-write-block-2 c = search needs
 
-landing-requires : tie.Need-landing-requires
-landing-requires c κs = search needs
+lands-requires : tie.Need-lands-requires
+lands-requires c κs = search needs
 
 same-length : tie.Need-same-length
 same-length c = search needs
@@ -41,9 +41,9 @@ same-length c = search needs
 returns : tie.Need-returns
 unfolding load landing
 returns c = (
-  c .landing .ensures ∙ ap pending.landing (c .before .before .before .before .load .ensures),
-  counted-down (c .before .before .before .before .before .before .before .before .args .block .now) _ _ _ _ (c .before .before .before .before .load .ensures) (c .before .before .before .screened .ensures) (c .before .before .countdown .ensures) (c .before .kind .ensures),
+  c .lands .ensures ∙ ap pending.lands (c .before .before .before .before .load .ensures),
+  counted-down (c .before .before .before .before .before .before .before .before .args .block .now) _ _ _ _ (c .before .before .before .before .load .ensures) (c .before .before .before .fall .ensures) (c .before .before .countdown .ensures) (c .before .kind .ensures),
 )
 
 pub count-down-spec : {M : Type 1} → statement M
-count-down-spec = tie.close (tie.spec slice-read-load slice-read-load-2 load-requires screened-requires countdown-requires slice-write-block kind-requires slice-write-block-2 landing-requires same-length returns)
+count-down-spec = tie.close (tie.spec slice-read-load slice-read-load-2 load-requires fall-requires countdown-requires slice-write-block kind-requires slice-write-block-2 lands-requires same-length returns)

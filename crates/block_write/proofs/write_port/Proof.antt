@@ -13,12 +13,12 @@ use Rattle.bits.specs.Over.{over}
 use Rattle.receiver.proofs.Sound.{has-place, length-filed}
 use Rattle.receiver.specs.Lines.{indexed, pulseOf}
 use Rattle.receiver.specs.Port.{stepAt}
-use Rattle.receiver.specs.Receive.{stepOf, words, written, Rx, Sound, rxOf}
+use Rattle.receiver.specs.Receive.{stepOf, words, afterPulse, Rx, Sound, rxOf}
 use Rattle.receiver.specs.Store.{Fits}
 use Rattle.layout.proofs.Saved.{clauses}
 use Rattle.layout.specs.Block.{load}
 use Rattle.block_write.proofs.Steps.{stored-long, answer-is, sound, index-small, stepped-made, packets-answered, length-receiver}
-use Rattle.block_write.specs.Bytes.{putReceiver, putLines, handed, packetsIn, linesOf}
+use Rattle.block_write.specs.Bytes.{putReceiver, putLines, handed, packetsTold, linesOf}
 use Rattle.receiver_run.specs.declared.Lines.{Lines}
 use Rattle.block_write.proofs.write_port.Statement.{statement}
 use Rattle.block_write.proofs.write_port.Tie as tie
@@ -44,7 +44,7 @@ lines p = p .before .load-lines .ensures
 
 step : (p : tie.After-write) → stepOf (p .write .result) ≡ stepAt (load (block p) .port) (start p .args .value)
 unfolding linesOf
-step p = p .write .ensures ∙ (λ t. written (rx p t) (pulseOf (start p .args .value)) (lines p t .both))
+step p = p .write .ensures ∙ (λ t. afterPulse (rx p t) (pulseOf (start p .args .value)) (lines p t .both))
 
 fits : (p : tie.After-write) → Fits (p .write .result .done)
 fits p = has-place (p .write .result) (load (block p) .port .rx) (pulseOf (start p .args .value)) (load (block p) .port .both) (sound (block p) (start p .pre .0)) (step p)
@@ -121,7 +121,7 @@ returns c =
     c .before .before .before .before .before .before .before .before .before .before .before .before .before .before .before .before .before .before .index-after .ensures ∙ (λ t. indexed (lines p t .index) (load b .game .pads) (lines p t .p15) v) in
     let store : length (load b .port .store) ≡ storeBytes = length-part storeAt storeBytes b (omega (arith, long p)) in
     let a = answer-is b ok v w lo hi i (step p) packet index in (
-      done .0 ∙ packets-answered (w .done) _ (fits p) (length-filed (w .done) (words lo hi) (load b .port .store) (fits p) store) ∙ ap packetsIn a,
+      done .0 ∙ packets-answered (w .done) _ (fits p) (length-filed (w .done) (words lo hi) (load b .port .store) (fits p) store) ∙ ap packetsTold a,
       (
         c .before .before .save-lines .ensures
             ∙ (λ t.

@@ -31,7 +31,7 @@ say-requires c κs =
     let a = c .before .before .before .before .before .before .before .loop in
     let t = a .inv .0 in
     let more = goes-room (a .f .refused) (a .f .size) (a .f .reading) (a .f .at) (length (now (start .args .chunk))) (length (a .out)) (sym (c .before .before .before .before .before .before .goes-on .ensures) ∙ c .before .before .before .before .before .if1 .taken) in
-    (t .fit, ((omega (arith, t .counted, t .within, start .pre .1 .0 .0), (t .within, start .pre .1 .0 .1 .1)), (more, omega (arith, a .inv .1 .1 .1 .1 .1, start .pre .1 .1))))
+    (t .fit, ((omega (arith, t .numbered, t .within, start .pre .1 .0 .0), (t .within, start .pre .1 .0 .1 .1)), (more, omega (arith, a .inv .1 .1 .1 .1 .1, start .pre .1 .1))))
 
 loop-less : tie.Need-loop-less Inv-loop μ-loop
 loop-less c =

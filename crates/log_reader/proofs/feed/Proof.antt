@@ -20,7 +20,7 @@ abbrev μ-loop : tie.MeasureT-loop
 loop-holds : tie.Need-loop-holds Inv-loop μ-loop
 loop-holds c =
     let start = c .before .before .before .before .before .before in
-    (record { fit = start .pre .0; within = omega arith; counted = omega arith }, (refl, (refl, (refl, (refl, refl)))))
+    (record { fit = start .pre .0; within = omega arith; numbered = omega arith }, (refl, (refl, (refl, (refl, refl)))))
 
 is-left-requires : tie.Need-is-left-requires Inv-loop μ-loop
 is-left-requires c κs = tt
@@ -30,7 +30,7 @@ fill-requires c κs =
     let start = c .before .before .before .before .before .before .before .before .before .before .before .before .before .before in
     let a = c .before .before .before .before .before .before .before .loop in
     let t = a .inv .0 in
-    (t .fit, ((omega (arith, t .counted, t .within, start .pre .1 .0 .0, start .pre .1 .0 .1), (t .within, omega (arith, start .pre .1 .0 .1))), omega (arith, a .inv .1 .1 .1 .1 .1, start .pre .1 .1)))
+    (t .fit, ((omega (arith, t .numbered, t .within, start .pre .1 .0 .0, start .pre .1 .0 .1), (t .within, omega (arith, start .pre .1 .0 .1))), omega (arith, a .inv .1 .1 .1 .1 .1, start .pre .1 .1)))
 
 sub-told : tie.Need-sub-told Inv-loop μ-loop
 sub-told c = omega arith

@@ -47,7 +47,7 @@ returns c =
     let start = c .before .before .before .before .before .before .before .before .before .before .before .before .before .before .before .before .before .before .before .before .before .before .before .before .before .before in
     let k = c .before .before .before .before .before .before .before .before .before .before .before .before .feed .ensures in
     let m = kept-more (start .args .reading) _ 1 (c .before .before .before .before .before .before .before .before .before .before .before .before .feed .result) _ (simp length-take (omega (arith, c .before .before .before .before .before .before .before .before .before .before .before .before .before .before .before .before .before .before .before .before .last-lf .ensures, last-short (start .args .reading)))) k in
-    record { fit = m .fit; counted = m .counted }
+    record { fit = m .fit; numbered = m .numbered }
 
 pub finish-spec : {M : Type 1} → statement M
 finish-spec =

@@ -80,7 +80,7 @@ loop-again c =
     let t = c .before .before .before .before .before .before .before .before .before .before .before .before .before .before .before .turn in (
       t .ensures .fit,
       (
-        omega (arith, t .ensures .counted, a .inv .1 .0, c .before .before .before .before .before .before .before .before .before .before .before .before .before .before .before .before .before .before .before .before .before .before .loop-test .taken),
+        omega (arith, t .ensures .numbered, a .inv .1 .0, c .before .before .before .before .before .before .before .before .before .before .before .before .before .before .before .before .before .before .before .before .before .before .loop-test .taken),
         (sized-kept (desk (a .block) (a .line) (a .bytes) (a .command)) _ _ _ _ (a .inv .1 .1 .0) (t .kept .1 .0) (t .kept .1 .1 .0) (t .kept .1 .1 .1 .0) (t .kept .1 .1 .1 .1 .0), (t .kept .1 .1 .1 .1 .1 .0 ∙ a .inv .1 .1 .1 .0, t .kept .1 .1 .1 .1 .1 .1 .0 ∙ a .inv .1 .1 .1 .1)),
       ),
     )

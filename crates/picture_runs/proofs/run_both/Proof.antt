@@ -5,13 +5,13 @@ use native.Mathlib.Omega.{arith}
 use lib.ListN.{length, length-set, getD}
 use Rattle.bits.specs.Paint.{Painted}
 use Rattle.bits.proofs.Painting.{painted-none, painted-turn, painted-count}
-use Rattle.picture_runs.specs.Runs.{shadeIn, runPixel}
+use Rattle.picture_runs.specs.Runs.{laneShade, runPixel}
 use Rattle.picture_lanes.specs.Lanes.{lane}
 use Rattle.picture_runs.proofs.run_both.Statement.{statement}
 use Rattle.picture_runs.proofs.run_both.Tie as tie
 
 abbrev Inv-loop : tie.InvT-loop
-Inv-loop out₀ at l border base s game n j₀ out j = (j ≤ 8) × (length out ≡ length out₀) × Painted out out₀ at j (λ i. runPixel (lane l i) border base (getD game (n + shadeIn s i) 0))
+Inv-loop out₀ at l border base s game n j₀ out j = (j ≤ 8) × (length out ≡ length out₀) × Painted out out₀ at j (λ i. runPixel (lane l i) border base (getD game (n + laneShade s i) 0))
 
 abbrev μ-loop : tie.MeasureT-loop
 μ-loop out₀ at l border base s game n j₀ out j = 8 - j

@@ -5,12 +5,12 @@ use native.Mathlib.Omega.{arith}
 use lib.ListN.{length, length-set, getD}
 use Rattle.bits.specs.Paint.{Painted}
 use Rattle.bits.proofs.Painting.{painted-none, painted-turn, painted-count}
-use Rattle.picture_runs.specs.Runs.{shadeIn}
+use Rattle.picture_runs.specs.Runs.{laneShade}
 use Rattle.picture_runs.proofs.run_game.Statement.{statement}
 use Rattle.picture_runs.proofs.run_game.Tie as tie
 
 abbrev Inv-loop : tie.InvT-loop
-Inv-loop out₀ at s game n j₀ out j = (j ≤ 8) × (length out ≡ length out₀) × Painted out out₀ at j (λ i. getD game (n + shadeIn s i) 0)
+Inv-loop out₀ at s game n j₀ out j = (j ≤ 8) × (length out ≡ length out₀) × Painted out out₀ at j (λ i. getD game (n + laneShade s i) 0)
 
 abbrev μ-loop : tie.MeasureT-loop
 μ-loop out₀ at s game n j₀ out j = 8 - j

@@ -2,7 +2,7 @@
 use Prim.Native.Nat.{_-_, _*_, _/_, _^_}
 use lib.Bits.{and-mask, mask-lt}
 use borrow.Author.Needs.{fits-under, needs}
-use Rattle.picture_runs.specs.Runs.{shadeIn}
+use Rattle.picture_runs.specs.Runs.{laneShade}
 use Rattle.picture_runs.proofs.shade.Statement.{statement}
 use Rattle.picture_runs.proofs.shade.Tie as tie
 
@@ -22,7 +22,7 @@ cast-result-2 : tie.Need-cast-result-2
 cast-result-2 c = fits-under _ _ 4 (mask-lt (c .args .s / 2 ^ (14 - 2 * c .args .j)) 2) tt
 
 returns : tie.Need-returns
-unfolding shadeIn
+unfolding laneShade
 returns c =
     let q = c .args .s / 2 ^ (14 - 2 * c .args .j) in
     (and-mask q 2, mask-lt q 2)

@@ -5,7 +5,7 @@ use Prim.Native.Nat.{_%_}
 use lib.Bits.{mask-lt}
 use borrow.Author.Tests.{eq-eqb, ne-eqb}
 use Rattle.receiver.specs.Count.{countOf}
-use Rattle.receiver.specs.Receive.{words, counted, stopped}
+use Rattle.receiver.specs.Receive.{words, expecting, stopped}
 use Rattle.receiver.proofs.Words.{first-byte}
 use Rattle.receiver.proofs.Receiver.stop.Statement.{statement}
 use Rattle.receiver.proofs.Receiver.stop.Tie as tie
@@ -29,7 +29,7 @@ keep-requires-2 : tie.Need-keep-requires-2
 keep-requires-2 c κs = search needs
 
 returns : tie.Need-returns
-unfolding counted stopped
+unfolding expecting stopped
 returns c =
     let s = c .before .before .before .before .before .before .before .args .self in
     let e = c .before .before .before .packet-count .ensures ∙ ap countOf (first-byte (s .lo) (s .hi)) in
@@ -40,7 +40,7 @@ returns c =
     )
 
 returns-2 : tie.Need-returns-2
-unfolding counted stopped
+unfolding expecting stopped
 returns-2 c =
     let s = c .before .before .before .before .before .before .args .self in
     let e = c .before .before .packet-count .ensures ∙ ap countOf (first-byte (s .lo) (s .hi)) in
