@@ -1,5 +1,5 @@
 -- What digits spell, two at a time: when they spell bytes (`even-spells`, `odd-spells`), how many and which (`length-spelled`,
--- `spelled-at`), and a line's first byte and the rest (`spelled-first`).
+-- `spelled-at`), and its first two digits and the rest (`two`).
 use Prim.Native.Nat.{ℕ, zero, suc, _+_, _*_, _<_, _≤_}
 use mathlib.Core.Bool.{Bool, true, false, _&&_, cond, false≢true}
 use mathlib.Core.Path.{_≡_, refl, ap, sym, _∙_}
