@@ -1,4 +1,4 @@
-//! Times jobs of the port beside the same jobs of the Rust. In a turn each side runs once, one after the other, so that a busy or
+//! Times jobs of Sporedrift beside the same jobs of the Rust. In a turn each side runs once, one after the other, so that a busy or
 //! slow moment meets both. A round has several turns and tells one ratio, of the best time of each side; the middle one of the
 //! rounds' ratios counts, and the least and the greatest show how far to trust it. Answers are compared before anything is timed.
 
@@ -42,7 +42,7 @@ pub fn each<T>(n: usize, mut run: impl FnMut(usize) -> T) -> f64 {
 
 fn main() {
     let asked: Vec<String> = std::env::args().skip(1).collect();
-    println!("| job | the port, us | the Rust, us | ratio | least to greatest | at most |");
+    println!("| job | ours, us | the Rust, us | ratio | least to greatest | at most |");
     println!("|---|---|---|---|---|---|");
     let mut missed = 0;
     for mut job in jobs::all() {

@@ -1,5 +1,5 @@
 //! A page; a screen that lands, of each kind; and a screen with no landing. The Rust's screen comes unpacked, a byte a pixel, as its own
-//! ppu has it; the port's is the packed one that a caller lends.
+//! ppu has it; ours is the packed one that a caller lends.
 
 use crate::block::*;
 use crate::oracle::{self, Oracle};

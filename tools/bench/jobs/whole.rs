@@ -1,4 +1,4 @@
-//! The whole job: the sample log to the text that a program prints of it, all in memory. The port does what the program does but for the
+//! The whole job: the sample log to the text that a program prints of it, all in memory. Ours does what the program does but for the
 //! calls of the system (crates/bench_jobs); the Rust is driven by tools/oracle/driver.rs.
 
 use crate::{Job, driver, each};

@@ -1,4 +1,4 @@
-//! A log of writes on a unit: packets of random data, idle polling, what the sample sends, and lines at random. The port goes as a log
+//! A log of writes on a unit: packets of random data, idle polling, what the sample sends, and lines at random. Ours goes as a log
 //! does, by lines of up to 5,760 writes on a block that is known to be valid. The packets are SOUND, which neither side carries out.
 //! Beside it the plain run, which has the fast one's contract, over a receiver in locals.
 
