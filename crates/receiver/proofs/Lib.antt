@@ -2,5 +2,6 @@ pub mod Checks
 pub mod Examples
 pub mod Keeps
 pub mod Pulses
+pub mod Readings
 pub mod Sound
 pub mod Words

@@ -1,6 +1,9 @@
 -- The packet store: 112 bytes, seven places of sixteen. A packet that is in takes its place there; a command is complete with its last.
 -- Document 01, A write: "Append the packet. If all are in: .. answer its 16 to 112 bytes."; The unit block: "32 packet store (112)".
-use Prim.Native.Nat.{ℕ, zero, suc, _-_, _*_, _/_, _%_, _<_}
+-- `atStop` is that rule. Below it stands the same in parts, by what a pulse completed, as the code goes: it files the packet, the caller
+-- takes the command from the store's front, and the store is emptied last. That the parts come to the rule is proofs/Readings.
+use Prim.Native.Nat.{ℕ, zero, suc, _+_, _-_, _*_, _/_, _%_, _<_}
+use mathlib.Core.Bool.{Bool, cond}
 use mathlib.Core.List.{List, [], _∷_}
 use mathlib.Core.Option.{Option, none, some}
 use lib.ListN.{take, replicate}
@@ -17,6 +20,20 @@ bytesOf (suc n) x = x % 256 ∷ bytesOf n (x / 256)
 -- the store s with the packet p at its n-th place
 unfoldable pub appended : List ℕ → ℕ → ℕ → List ℕ
 appended s p n = over (16 * n) 16 (bytesOf 16 p) s
+
+-- what a stop pulse answers, and the store that it leaves
+pub record AtStop : Type 0 where
+  pub answer : Option (List ℕ)
+  pub store : List ℕ
+
+-- n packets are in s, and the packet p is appended: if all are in now, their bytes are the answer, and the store is empty again; else
+-- they wait for the next
+unfoldable pub atStop : Bool → ℕ → ℕ → List ℕ → AtStop
+atStop all n p s =
+    cond all (record { answer = some (take (16 * (n + 1)) (appended s p n)); store = replicate storeBytes 0 })
+    (record { answer = none; store = appended s p n })
+
+-- ---- the same in parts
 
 -- the store after a pulse that completed this with the packet p: a complete command's bytes stand at its front
 unfoldable pub filed : Done → ℕ → List ℕ → List ℕ
