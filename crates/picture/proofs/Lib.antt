@@ -1,3 +1,4 @@
+pub mod Readings
 pub mod Rows
 pub mod Whole
 pub mod Vectors
