@@ -111,3 +111,9 @@ plain-good p d w e = subst⁻¹ (λ (c : command.Command). GoodCommand c) e (dec
 pub pair-few : (c : PlainCommand) (a b : ℕ) (d : List ℕ) → c ≡ PalPair a b → GoodPlain (toldPlain c d) → (a < 4) × (b < 4)
 unfolding toldPlain
 pair-few c a b d e g = let h = subst (λ (x : PlainCommand). GoodPlain (toldPlain x d)) e g in (h .0, h .1)
+
+-- ---- a command on the block of a good unit leaves the block of that unit with the command carried out
+
+pub carried-good : (u : Sgb) → Good u → (c : command.Command) (m x : List ℕ) → m ≡ save u → x ≡ carriedBlock c m → x ≡ save (carried c u)
+unfolding carriedBlock
+carried-good u g c m x e h = h ∙ ap (λ (w : Sgb). save (carried c w)) (ap load e ∙ good-back u g)

@@ -2,8 +2,8 @@
 // Document 01, Commands; Rust: `dispatch_command`. The rules are `Carry` of the crate `rules`; what each command computes is in the crates
 // `palettes`, `attributes` and `commands`. Every worker requires a valid block and leaves one.
 ghost use mathlib.Core.Path.{_≡_};
-ghost use Prim.Native.Nat.{_<_};
-ghost use lib.ListN.{length};
+ghost use Prim.Native.Nat.{_*_, _≤_, _<_};
+ghost use lib.ListN.{length, take};
 ghost use Rattle.attributes.specs.Data.{Whole};
 ghost use Rattle.palettes.specs.Palettes as palette;
 ghost use Rattle.commands.specs.Command.{plain, fixed, palPair, attrBlk, attrLin, attrDiv, attrChr, mltReq, maskEn, palSet, attrSet, freeze, transfer, decode};
@@ -223,4 +223,13 @@ pub fn carry_out(block: &mut [u8], d: &[u8])
         Command::Plain(p) => carry_plain(block, p, d),
         Command::Fixed(f) => carry_fixed(block, f, d),
     }
+}
+
+// The command of n packets at the front of a buffer.
+pub fn carry_front(block: &mut [u8], buffer: &[u8], n: u8)
+    requires { ⌜ Valid (now block) × Whole (take (16 * n) (now buffer)) × (16 * n ≤ length (now buffer)) ⌝ }
+    ensures { λ _. ⌜ now (block .exit) ≡ carriedBlock (decode (take (16 * n) (now (buffer .entry)))) (now (block .entry)) ⌝ }
+{
+    let end = 16 * bits::wide(n);
+    carry_out(block, &buffer[0..end]);
 }

@@ -15,7 +15,7 @@ use Rattle.receiver.specs.Store.{packetsOf}
 use Rattle.receiver.specs.declared.Receiver.{Receiver}
 use Rattle.receiver.proofs.Keeps.{v3-sound}
 use Rattle.attributes.specs.Data.{Whole}
-use Rattle.commands.specs.Command.{decode}
+use Rattle.commands.specs.Command.{Command, decode}
 use Rattle.receiver_run.specs.Run.{Ended, lined, onward, runs, Ready, portOf, endedOf}
 use Rattle.receiver_run.specs.declared.Lines.{Lines}
 use Rattle.receiver_run.specs.declared.Ran.{Ran}
@@ -31,8 +31,9 @@ use Rattle.rules.specs.Write.{meant, answer}
 use Rattle.rules.proofs.Keeps.{WholeIf, answered-whole, good-stepped, good-written}
 use Rattle.block_write.specs.Bytes.{linesOf, putReceiver, putLines, handed, packetsTold, taken, settled}
 use Rattle.block_write.proofs.Steps.{port-made, length-receiver, packets-taken}
+use Rattle.block_write.proofs.Handed.{none-carried, front}
 use Rattle.block_command.specs.Carrying.{carriedBlock}
-use Rattle.unit.proofs.Writes.{none-carried, front, front-carried}
+use Rattle.block_command.proofs.Chain.{carried-good}
 use Rattle.block_writes.specs.Play.{Played, played, handedOver, commandOf, ranTo, ranUnit}
 use Rattle.block_writes.proofs.Plays.{further, none-written, one-written, one-stepped, mk, plays}
 
@@ -201,6 +202,9 @@ module _ (b ws m : List ℕ) (ok : Valid b) (made : m ≡ save (ranUnit (load b)
         s .whole,
         (
           s .room,
-          λ x k. front-carried (ranUnit (load b) e′) (f .good) (commandOf e′) n m buffer x made s k ∙ sym (ap (λ (p : Played). save (p .unit)) all),
+          λ x k.
+              carried-good (ranUnit (load b) e′) (f .good) _ m x made k
+              ∙ ap (λ (c : Command). save (carried c (ranUnit (load b) e′))) (sym (s .means))
+              ∙ sym (ap (λ (p : Played). save (p .unit)) all),
         ),
       )

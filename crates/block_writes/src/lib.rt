@@ -9,6 +9,7 @@ ghost use Rattle.layout.specs.Valid.{Valid};
 ghost use Rattle.block_write.specs.Bytes.{handed, packetsTold};
 ghost use Rattle.receiver_run.specs.Run.{runs, portOf, endedOf, Ready};
 ghost use Rattle.block_writes.specs.Play.{played, ranTo, ranUnit, handedOver, commandOf};
+use block_command::carry_front;
 use block_write::hand_over;
 use block_write::load_lines;
 use block_write::load_receiver;
@@ -37,7 +38,7 @@ pub fn play(block: &mut [u8], writes: &[u8], command: &mut [u8]) -> Played
     if n == 0 {
         return p;
     }
-    unit::carry(block, command, n);
+    carry_front(block, command, n);
     p
 }
 

@@ -17,7 +17,7 @@ use Rattle.layout.proofs.Goods.{valid-good, saved-valid}
 use Rattle.rules.specs.Write.{written, answer}
 use Rattle.rules.specs.Screen.{screened}
 use Rattle.rules.proofs.Keeps.{good-screened}
-use Rattle.unit.proofs.Writes.{length-handed}
+use Rattle.block_write.proofs.Handed.{length-handed}
 use Rattle.block_writes.specs.Play.{Played, stop, played}
 use Rattle.log_line.specs.Line.{Meaning, writes, screen, refused}
 use Rattle.log_line.specs.Lines.{meaningMarked}

@@ -1,18 +1,15 @@
 // The public calls that change a block: a joypad write, a screen, and the fresh blocks; and the check of a saved one.
 // Rust: `write_joypad`, `update_screen`, `new`, `post_boot`. None asks anything of its caller, and a refusal changes no lent byte.
-// The meaning is in specs/Calls. Beneath stand workers that require a valid block and leave one, so that a long run checks once.
+// The meaning is in specs/Calls. The workers below them (the crates `block_..`) require a valid block and leave one, so that a long run checks once.
 ghost use mathlib.Core.Path.{_≡_};
-ghost use Prim.Native.Nat.{_*_, _≤_};
-ghost use lib.ListN.{length, take};
-ghost use Rattle.attributes.specs.Data.{Whole};
-ghost use Rattle.commands.specs.Command.{decode};
+ghost use Prim.Native.Nat.{_≤_};
+ghost use lib.ListN.{length};
 ghost use Rattle.parts.specs.Parts.{storeBytes};
 ghost use Rattle.layout.specs.Block.{load, save};
 ghost use Rattle.layout.specs.Valid.{Valid};
 ghost use Rattle.rules.specs.Write.{written, answer};
 ghost use Rattle.view.specs.Refusal.{refusalOf};
 ghost use Rattle.block_write.specs.Bytes.{handed, packetsTold};
-ghost use Rattle.block_command.specs.Carrying.{carriedBlock};
 ghost use Rattle.unit.specs.Calls.{writeAnswer, writeBlock, writeCommand, screenAnswer, screenBlock, freshAnswer, newBlock, postBootBlock};
 ghost use Rattle.unit.specs.Answers.{writtenTold, shownTold};
 use transfer::pending::Landed;
@@ -51,7 +48,7 @@ pub fn write_joypad(block: &mut [u8], value: u8, command: &mut [u8]) -> Written
 }
 
 // The same on a valid block, with room for a command: answers the packets of the command that is complete, or 0.
-pub fn write(block: &mut [u8], value: u8, command: &mut [u8]) -> u8
+fn write(block: &mut [u8], value: u8, command: &mut [u8]) -> u8
     requires { ⌜ Valid (now block) × (storeBytes ≤ length (now command)) ⌝ }
     ensures { λ r. ⌜ r ≡ packetsTold (answer (load (now (block .entry))) value) ⌝ }
     ensures { λ _. ⌜ now (block .exit) ≡ save (written (load (now (block .entry))) value) ⌝ }
@@ -61,17 +58,8 @@ pub fn write(block: &mut [u8], value: u8, command: &mut [u8]) -> u8
     if n == 0 {
         return 0;
     }
-    carry(block, command, n);
+    block_command::carry_front(block, command, n);
     n
-}
-
-// The command of n packets at the front of the buffer, carried out.
-pub fn carry(block: &mut [u8], command: &[u8], n: u8)
-    requires { ⌜ Valid (now block) × Whole (take (16 * n) (now command)) × (16 * n ≤ length (now command)) ⌝ }
-    ensures { λ _. ⌜ now (block .exit) ≡ carriedBlock (decode (take (16 * n) (now (command .entry)))) (now (block .entry)) ⌝ }
-{
-    let end = 16 * bits::wide(n);
-    block_command::carry_out(block, &command[0..end]);
 }
 
 // A screen: it becomes the live capture, and a transfer that is due lands.

@@ -35,8 +35,8 @@ returns c =
       ),
     )
 
-carry-requires : tie.Need-carry-requires
-carry-requires c κs =
+carry-front-requires : tie.Need-carry-front-requires
+carry-front-requires c κs =
     let start = c .before .before .before .before .before .before .before .before .before .before .before .before .before in
     let p = c .before .before .before .before .before .before .before .play-port in
     let b = now (start .args .block) in
@@ -61,7 +61,7 @@ returns-2 c =
       (
         p .ensures .1 .0 ∙ played-packets b ws _ (start .pre .0) (p .ensures .1 .1 .0),
         (
-          k .1 .1 _ (c .before .before .carry .ensures),
+          k .1 .1 _ (c .before .before .carry-front .ensures),
           p .ensures .1 .1 .1 ∙ ap (λ (o : Option (List ℕ)). handed o (now (start .args .command))) (played-told b ws _ (start .pre .0) (p .ensures .1 .1 .0)),
         ),
       ),
@@ -75,7 +75,7 @@ play-spec =
     same-length
     same-length-2
     returns
-    carry-requires
+    carry-front-requires
     same-length-3
     same-length-4
     returns-2)

@@ -27,8 +27,8 @@ returns c =
       ),
     )
 
-carry-requires : tie.Need-carry-requires
-carry-requires c κs =
+carry-front-requires : tie.Need-carry-front-requires
+carry-front-requires c κs =
     let start = c .before .before .before .before .before .before .before .before .before .before .before .before in
     let w = c .before .before .before .before .before .before .before .write-port in
     let k = said (load (start .args .block .now)) (start .args .value) (w .result) (start .args .command .now) _ (valid-good _ (start .pre .0 .tested)) (w .ensures .0) (c .before .before .if1 .left) (w .ensures .1 .1) in
@@ -47,10 +47,10 @@ returns-2 c =
     let k = said (load (start .args .block .now)) (start .args .value) (w .result) (start .args .command .now) _ (valid-good _ (start .pre .0 .tested)) (w .ensures .0) (c .before .before .before .before .before .if1 .left) (w .ensures .1 .1) in (
       w .ensures .0,
       (
-        carried-out _ _ _ (start .args .value) (w .result) _ (start .pre .0) (w .ensures .1 .0) k (c .before .before .carry .ensures),
+        carried-out _ _ _ (start .args .value) (w .result) _ (start .pre .0) (w .ensures .1 .0) k (c .before .before .carry-front .ensures),
         w .ensures .1 .1,
       ),
     )
 
 pub write-spec : {M : Type 1} → statement M
-write-spec = tie.close (tie.spec write-port-requires same-length same-length-2 returns carry-requires same-length-3 same-length-4 returns-2)
+write-spec = tie.close (tie.spec write-port-requires same-length same-length-2 returns carry-front-requires same-length-3 same-length-4 returns-2)

@@ -7,7 +7,7 @@ use Rattle.view.proofs.Refusals.{refuses, accepts}
 use Rattle.unit.specs.Answers.{writtenTold}
 use Rattle.unit.specs.Calls.{writeAnswer}
 use Rattle.unit.proofs.Calling.{write-refused, write-short, write-given}
-use Rattle.unit.proofs.Writes.{none-answered, said}
+use Rattle.unit.proofs.Writes.{none-answered, one-answered}
 use Rattle.unit.proofs.write_joypad.Statement.{statement}
 use Rattle.unit.proofs.write_joypad.Tie as tie
 
@@ -69,8 +69,8 @@ returns-4 c =
     let r = c .before .before .before .before .before .before .before .before .before .before .refusal in
     let w = c .before .before .before .before .before .write in
     let ok = accepts (start .block .now) (r .result) (r .ensures) (c .before .before .before .before .before .before .before .before .before .if1 .left) in
-    let k = said (load (start .block .now)) (start .value) (w .result) (start .command .now) _ (valid-good (start .block .now) (ok .tested)) (w .ensures .0) (c .if3 .left) (w .ensures .1 .1) in
-    write-given (start .block .now) (start .value) (start .command .now) _ _ _ ok (c .before .before .before .before .before .before .before .before .if2 .left) (k .told) (w .ensures .1 .0) (w .ensures .1 .1)
+    write-given (start .block .now) (start .value) (start .command .now) _ _ _ ok (c .before .before .before .before .before .before .before .before .if2 .left)
+    (one-answered (load (start .block .now)) (start .value) (w .result) (w .ensures .0) (c .if3 .left)) (w .ensures .1 .0) (w .ensures .1 .1)
 
 pub write-joypad-spec : {M : Type 1} → statement M
 write-joypad-spec = tie.close (tie.spec refusal-requires same-length returns same-length-2 returns-2 write-requires same-length-3 same-length-4 returns-3 same-length-5 same-length-6 returns-4)
