@@ -5,12 +5,11 @@ use Prim.Native.Nat.{ℕ, _*_, _<_, _≤_}
 use native.Mathlib.Omega.{arith}
 use lib.ListN.{length, drop}
 use borrow.Author.Tests.{lt-ltb, le-ltb}
+use Rattle.bits.specs.Determined.{Once}
 use Rattle.pulses.specs.Answer.{given, encodedAnswer, verdictAnswer}
 use Rattle.pulses.specs.Bytes.{packetsIn, commandPackets}
 use Rattle.pulses.specs.Encode.{pulsesOf, short, encoding, encoded, Encodes}
-use Rattle.pulses.specs.declared.Encoded.{Encoded}
 use Rattle.pulses.specs.declared.Encoded.the-variants as E
-use Rattle.pulses.specs.declared.Conformance.{Conformance}
 use Rattle.pulses.specs.declared.Conformance.the-variants as C
 use Rattle.pulses.proofs.Commands.{none-malformed, some-formed}
 
@@ -43,7 +42,7 @@ module _ (c o : List ℕ) (n : ℕ) (e : n ≡ commandPackets c) where
 
 -- ---- an answer is told by no other (two outcomes of a call are then equal: `unit`, proofs/Determined)
 
-pub one-encoded : (a b : Encoded) → encodedAnswer a ≡ encodedAnswer b → a ≡ b
+pub one-encoded : Once encodedAnswer
 unfolding encodedAnswer
 one-encoded E.Malformed E.Malformed h = refl
 one-encoded E.Malformed E.Short h = absurd (let z : _≡_ {A = ℕ} 5 6 = cc in omega arith)
@@ -55,7 +54,7 @@ one-encoded (E.Writes m) E.Malformed h = absurd (let z : _≡_ {A = ℕ} 0 1 = c
 one-encoded (E.Writes m) E.Short h = absurd (let z : _≡_ {A = ℕ} 0 1 = cc in omega arith)
 one-encoded (E.Writes m) (E.Writes n) h = ap E.Writes (cc)
 
-pub one-verdict : (a b : Conformance) → verdictAnswer a ≡ verdictAnswer b → a ≡ b
+pub one-verdict : Once verdictAnswer
 unfolding verdictAnswer
 one-verdict C.Malformed C.Malformed h = refl
 one-verdict C.Malformed C.Conforms h = cc

@@ -6,10 +6,10 @@ use mathlib.Core.Bool.{true, false}
 use native.Mathlib.Omega.{arith}
 use borrow.Author.Tests.{ne-eqb}
 use native.Mathlib.Nat.{not-suc-le-zero, le-of-suc-le-suc}
+use Rattle.bits.specs.Determined.{Once}
 use Rattle.transfer.specs.declared.pending.Transfer.{Transfer}
 use Rattle.transfer.specs.declared.pending.Transfer.the-variants.{Palettes, Attributes, BorderTiles, BorderMap}
 use Rattle.transfer.specs.declared.pending.Pending.the-variants.{Nothing, In}
-use Rattle.transfer.specs.declared.pending.Landed.{Landed}
 use Rattle.transfer.specs.declared.pending.Landed.the-variants as page
 use Rattle.transfer.specs.Pending.{numberOf, countdownOf, kindOf, named, pendingOf, fallen, lands, landedOf}
 
@@ -26,12 +26,12 @@ kind-read-back n t h = let some : n ≡ 0 → ⊥ = λ e. omega arith in rw (ne-
     each BorderMap = refl
 
 -- so a number names one kind, and tells what landed
-pub kind-once : (s t : Transfer) → numberOf s ≡ numberOf t → s ≡ t
+pub kind-once : Once numberOf
 kind-once s t e =
     let q : In 1 s ≡ In 1 t = sym (kind-read-back 1 s (omega arith)) ∙ (ap (pendingOf 1) e ∙ kind-read-back 1 t (omega arith)) in
     cc
 
-pub landed-once : (l m : Landed) → landedOf l ≡ landedOf m → l ≡ m
+pub landed-once : Once landedOf
 unfolding landedOf
 landed-once page.Nothing page.Nothing e = refl
 landed-once page.Nothing (page.Page t) e = cc

@@ -1,13 +1,17 @@
 -- Two outcomes that one contract allows are equal, for every public call: document 01, What the proofs owe a reader. There are no exceptions.
--- An outcome is the answer and every lent byte after the call. What a contract tells of it is the call's own `Learnt k a r e`, read by the
--- compiler off the `ensures` lines: a is the arguments and e the parameters after the call, each in order, r the answer, k the lifetimes.
--- One law, `one`: a contract tells an answer, or bytes, by an equation, and what is told of one answer is told of no other. That an enum's
--- cases are told apart stands with the enum: here, in `view` (proofs/Told) and in `pulses` (proofs/Encodes).
-use mathlib.Core.Path.{_≡_, refl, sym, ap, _∙_}
+-- What that means and its one law stand in `bits` (specs/ and proofs/Determined). That an enum's cases are told apart stands with the enum:
+-- here, in `view` and `colour` (proofs/Told) and in `pulses` (proofs/Encodes). Next door: `log_line::parse` and the calls for C, each in the
+-- proofs/Determined of its crate.
+use mathlib.Core.Path.{refl, ap}
+use mathlib.Core.Bool.{Bool}
 use mathlib.Core.List.{List}
 use Prim.Native.Nat.{ℕ}
 use denote.Ref.{now}
+use Rattle.bits.specs.Determined.{Once, Determined}
+use Rattle.bits.proofs.Determined.{one, same}
+use Rattle.colour.specs.declared.Rgb555.{Rgb555}
 use Rattle.colour.specs.declared.Rgb8.{Rgb8}
+use Rattle.colour.proofs.Told.{word-of}
 use Rattle.pulses.specs.declared.Encoded.{Encoded}
 use Rattle.pulses.specs.declared.Conformance.{Conformance}
 use Rattle.pulses.specs.Answer.{encodedAnswer, verdictAnswer}
@@ -17,6 +21,11 @@ use Rattle.pulses.proofs.verdict.Reads as verdict
 use Rattle.screen.proofs.displayed_screen.Reads as displayed-screen
 use Rattle.border.proofs.tile.Reads as tile
 use Rattle.colour.proofs.Rgb555.to_rgb8.Reads as to-rgb8
+use Rattle.colour.proofs.Rgb555.from_bytes.Reads as from-bytes
+use Rattle.colour.proofs.BorderMapEntry.tile.Reads as entry-tile
+use Rattle.colour.proofs.BorderMapEntry.palette.Reads as entry-palette
+use Rattle.colour.proofs.BorderMapEntry.flip_x.Reads as entry-flip-x
+use Rattle.colour.proofs.BorderMapEntry.flip_y.Reads as entry-flip-y
 use Rattle.view.specs.declared.Number.{Number}
 use Rattle.view.specs.declared.Colour.{Colour}
 use Rattle.view.specs.declared.Entry.{Entry}
@@ -43,26 +52,9 @@ use Rattle.unit.proofs.new.Reads as new
 use Rattle.unit.proofs.post_boot.Reads as post-boot
 use Rattle.unit.proofs.check.Reads as check
 
--- ---- the law
-
--- what is told of an answer is told of no other
-abbrev pub Told : {R A : Type 0} → (R → A) → Type 0
-Told {R} told = (r s : R) → told r ≡ told s → r ≡ s
-
-pub one : {R A : Type 0} {due : A} (told : R → A) → Told told → (r s : R) → told r ≡ due → told s ≡ due → r ≡ s
-one told once r s p q = once r s (p ∙ sym q)
-
--- a number, bytes, or a colour that a contract names outright
-pub same : {A : Type 0} {due : A} (r s : A) → r ≡ due → s ≡ due → r ≡ s
-same {A} = one (λ (x : A). x) (λ r s e. e)
-
--- of the answers r and exits e that a contract allows for the arguments a, any two are the same outcome
-abbrev pub Determined : (O : Type 0) {A R E : Type 0} → (A → R → E → Type 0) → (R → E → O) → Type 0
-Determined O {A} {R} {E} allows outcome = (a : A) (r s : R) (e f : E) → allows a r e → allows a s f → outcome r e ≡ outcome s f
-
 -- ---- the enums of this crate
 
-one-written : Told writtenTold
+one-written : Once writtenTold
 unfolding writtenTold
 one-written (W.Refused m) (W.Refused n) e = cc
 one-written (W.Refused m) W.Nothing e = cc
@@ -74,7 +66,7 @@ one-written (W.Command m) (W.Refused n) e = cc
 one-written (W.Command m) W.Nothing e = cc
 one-written (W.Command m) (W.Command n) e = cc
 
-one-shown : Told shownTold
+one-shown : Once shownTold
 unfolding shownTold
 one-shown (S.Refused m) (S.Refused n) e = cc
 one-shown (S.Refused m) (S.Took n) e = cc
@@ -129,6 +121,22 @@ picture-determined k a r s e f p q = λ t. (one numberTold one-number r s (p .0)
 -- the colour
 pub to-rgb8-determined : (k : _) → Determined Rgb8 (to-rgb8.Learnt k) (λ r e. r)
 to-rgb8-determined k a r s e f p q = same r s p q
+
+pub from-bytes-determined : (k : _) → Determined Rgb555 (from-bytes.Learnt k) (λ r e. r)
+from-bytes-determined k a r s e f p q = one (λ (c : Rgb555). c .0) word-of r s p q
+
+-- the field of a map word
+pub entry-tile-determined : (k : _) → Determined ℕ (entry-tile.Learnt k) (λ r e. r)
+entry-tile-determined k a r s e f p q = same r s p q
+
+pub entry-palette-determined : (k : _) → Determined ℕ (entry-palette.Learnt k) (λ r e. r)
+entry-palette-determined k a r s e f p q = same r s p q
+
+pub entry-flip-x-determined : (k : _) → Determined Bool (entry-flip-x.Learnt k) (λ r e. r)
+entry-flip-x-determined k a r s e f p q = same r s p q
+
+pub entry-flip-y-determined : (k : _) → Determined Bool (entry-flip-y.Learnt k) (λ r e. r)
+entry-flip-y-determined k a r s e f p q = same r s p q
 
 -- the bytes of the part that is handed back
 pub displayed-screen-determined : (k : _) → Determined (List ℕ) (displayed-screen.Learnt k) (λ r e. now r)

@@ -1,46 +1,36 @@
 -- What an answer of a call here tells is told by no other: each enum's cases are told apart, by the number or by the value. That no two outcomes
 -- meet a contract rests on it (`unit`, proofs/Determined).
-use mathlib.Core.Path.{_≡_, ap}
-use Rattle.colour.specs.declared.Rgb555.{Rgb555}
-use Rattle.colour.specs.declared.BorderMapEntry.{BorderMapEntry}
-use Rattle.view.specs.declared.Number.{Number}
+use mathlib.Core.Path.{ap}
+use Rattle.bits.specs.Determined.{Once}
+use Rattle.colour.proofs.Told.{word-of, entry-of}
 use Rattle.view.specs.declared.Number.the-variants as N
-use Rattle.view.specs.declared.Colour.{Colour}
 use Rattle.view.specs.declared.Colour.the-variants as C
-use Rattle.view.specs.declared.Entry.{Entry}
 use Rattle.view.specs.declared.Entry.the-variants as E
-use Rattle.view.specs.declared.Border.{Border}
 use Rattle.view.specs.declared.Border.the-variants as B
 use Rattle.view.specs.Answers.{numberTold, colourTold, entryTold, borderTold}
 
-word-of : (c d : Rgb555) → c .0 ≡ d .0 → c ≡ d
-word-of c d e = λ t. record { 0 = e t }
-
-entry-of : (c d : BorderMapEntry) → c .0 ≡ d .0 → c ≡ d
-entry-of c d e = λ t. record { 0 = e t }
-
-pub one-number : (r s : Number) → numberTold r ≡ numberTold s → r ≡ s
+pub one-number : Once numberTold
 unfolding numberTold
 one-number (N.Refused n) (N.Refused m) e = cc
 one-number (N.Refused n) (N.Is v) e = cc
 one-number (N.Is v) (N.Refused m) e = cc
 one-number (N.Is v) (N.Is w) e = cc
 
-pub one-colour : (r s : Colour) → colourTold r ≡ colourTold s → r ≡ s
+pub one-colour : Once colourTold
 unfolding colourTold
 one-colour (C.Refused n) (C.Refused m) e = cc
 one-colour (C.Refused n) (C.Is d) e = cc
 one-colour (C.Is c) (C.Refused m) e = cc
 one-colour (C.Is c) (C.Is d) e = ap C.Is (word-of c d (cc))
 
-pub one-entry : (r s : Entry) → entryTold r ≡ entryTold s → r ≡ s
+pub one-entry : Once entryTold
 unfolding entryTold
 one-entry (E.Refused n) (E.Refused m) e = cc
 one-entry (E.Refused n) (E.Is d) e = cc
 one-entry (E.Is c) (E.Refused m) e = cc
 one-entry (E.Is c) (E.Is d) e = ap E.Is (entry-of c d (cc))
 
-pub one-border : (r s : Border) → borderTold r ≡ borderTold s → r ≡ s
+pub one-border : Once borderTold
 unfolding borderTold
 one-border (B.Refused n) (B.Refused m) e = cc
 one-border (B.Refused n) B.Transparent e = cc
