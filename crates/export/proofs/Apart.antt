@@ -9,6 +9,7 @@ use mathlib.Core.Logic.{_⊎_, inl, inr, ⊎-elim}
 use mathlib.Core.Option.{Option, none, some}
 use lib.Dec.{eqb, ltb, leb, lit≤}
 use lib.ListN.{length}
+use Rattle.bits.specs.Determined.{Once}
 use Rattle.bits.proofs.Tests.{either}
 use Rattle.colour.specs.declared.Rgb8.{Rgb8}
 use Rattle.pulses.specs.Answer.{Answer, refused, given}
@@ -24,9 +25,6 @@ use Rattle.export.specs.Coded.{coded, value, optional, truth}
 use Rattle.export.specs.Parts.{rgbNumber}
 
 -- ---- a code of values that stays clear of the refusals
-
-abbrev Once : {A : Type 0} → (A → ℕ) → Type 0
-Once {A} code = (x y : A) → code x ≡ code y → x ≡ y
 
 abbrev Clear : {A : Type 0} → (A → ℕ) → Type 0
 Clear {A} code = (x : A) → (code x ≡ 0) ⊎ (128 ≤ code x)

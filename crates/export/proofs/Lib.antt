@@ -1,3 +1,4 @@
 pub mod Fitting
 pub mod Places
 pub mod Apart
+pub mod Determined
