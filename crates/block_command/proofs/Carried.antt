@@ -7,7 +7,7 @@ use Prim.Native.Nat.{ℕ, _+_, _<_, _≤_}
 use native.Mathlib.Omega.{arith}
 use lib.Dec.{lit≤}
 use lib.ListN.{length, getD, replicate, set, length-set, length-replicate}
-use Rattle.parts.specs.Parts.{blockBytes, maskAt, indexAt, padsAt, countdownAt, kindAt, frozenOnAt, palettesAt, palettesBytes, mapAt, mapBytes, systemAt, systemBytes, filesAt, filesBytes, liveAt, captureBytes, frozenAt}
+use Rattle.parts.specs.Parts.{blockBytes, maskAt, indexAt, padsAt, frozenOnAt, palettesAt, palettesBytes, mapAt, mapBytes, systemAt, systemBytes, filesAt, filesBytes, liveAt, captureBytes, frozenAt}
 use Rattle.bits.specs.Bit.{bitOf}
 use Rattle.bits.specs.Over.{part, over}
 use Rattle.bits.proofs.Overs.{length-over, length-part, over-all}
@@ -17,14 +17,13 @@ use Rattle.commands.specs.Command.{plain, fixed, palPair, mltReq, maskEn, nothi
 use Rattle.commands.specs.Mask.{cancelled}
 use Rattle.commands.specs.Pads as pads
 use Rattle.commands.specs.declared.joypads.Pads.{Pads}
-use Rattle.transfer.specs.Pending.{numberOf, countdownOf, kindOf}
 use Rattle.transfer.specs.declared.pending.Pending.the-variants.{In}
 use Rattle.transfer.specs.declared.pending.Transfer.{Transfer}
 use Rattle.layout.specs.Block.{load, save, isHeld, heldBytes}
 use Rattle.layout.proofs.Goods.{valid-good}
 use Rattle.layout.proofs.Saved.{clauses, save-load, long-part}
 use Rattle.rules.specs.Carry.{withPalettes, withMap, withMask, withoutMask, plainly, fixedly, fixedSnes, carriedGame, carriedSnes, carried}
-use Rattle.block_command.specs.Carrying.{Valid, carriedBlock, changed, changedBlock, presetEnded}
+use Rattle.block_command.specs.Carrying.{Valid, carriedBlock, changed, changedBlock, presetEnded, pendingStored}
 use Rattle.block_command.proofs.Steps.{map-put, pads-put, mask-put, mode-put, palettes-left, palettes-put, pending-put}
 
 -- ---- bytes of any block
@@ -87,9 +86,9 @@ module _ (b : List ℕ) (v : Valid b) where
       let e : length (set (set b maskAt 1) frozenOnAt 1) ≡ length b = length-set (set b maskAt 1) frozenOnAt 1 ∙ length-set b maskAt 1 in
       ap length q ∙ length-over frozenAt (length shot) shot (set (set b maskAt 1) frozenOnAt 1) (omega (arith, v .long)) refl ∙ e
 
-  pub sent-put : (t : Transfer) (k : ℕ) → k ≡ numberOf t → set (set b countdownAt 3) kindAt k ≡ carriedBlock (fixed (transfer t)) b
-  unfolding carriedBlock carried carriedGame carriedSnes fixedly fixedSnes countdownOf kindOf
-  sent-put t k q = ap (λ (n : ℕ). set (set b countdownAt 3) kindAt n) q ∙ pending-put b v (In 3 t)
+  pub sent-put : (t : Transfer) → pendingStored (In 3 t) b ≡ carriedBlock (fixed (transfer t)) b
+  unfolding carriedBlock carried carriedGame carriedSnes fixedly fixedSnes
+  sent-put t = pending-put b v (In 3 t)
 
   pub palettes-taken : (d e ys last : List ℕ) → e ≡ presetEnded b → ys ≡ palette.palSet d (part systemAt systemBytes b) → last ≡ over palettesAt (length ys) ys e
       → last ≡ changedBlock (λ s g. withPalettes (palette.palSet d (s .system)) g) b

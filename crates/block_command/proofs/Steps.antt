@@ -16,7 +16,7 @@ use Rattle.layout.specs.Sgb.{Game}
 use Rattle.layout.proofs.Fields.{held-length}
 use Rattle.layout.proofs.Made.{Made, made-of, made-put, made-set, made-get, made-save}
 use Rattle.rules.specs.Carry.{withPads, withPalettes, withMap, withMask, withPending, plainly, carriedGame, carriedSnes, carried}
-use Rattle.block_command.specs.Carrying.{Valid, carriedBlock, changed, presetEnded}
+use Rattle.block_command.specs.Carrying.{Valid, carriedBlock, changed, presetEnded, pendingStored}
 
 -- ---- the block with the unit changed in one place
 
@@ -54,7 +54,7 @@ module _ (b : List ℕ) (v : Valid b) where
       unfold withPalettes isHeld heldBytes in
       made-save (changed (λ s g. withPalettes ys g) (load b)) (made-put ended 4 (lit< tt) ys e)
 
-  pub pending-put : (p : Pending) → set (set b countdownAt (countdownOf p)) kindAt (kindOf p) ≡ save (record { port = load b .port; game = load b .game; snes = withPending p (load b .snes) })
+  pub pending-put : (p : Pending) → pendingStored p b ≡ save (record { port = load b .port; game = load b .game; snes = withPending p (load b .snes) })
   pending-put p =
       unfold withPending in
       made-save (record { port = load b .port; game = load b .game; snes = withPending p (load b .snes) })

@@ -4,7 +4,9 @@ use mathlib.Core.List.{List}
 use Rattle.commands.specs.Command.{Command}
 use lib.ListN.{replicate, set}
 use Rattle.bits.specs.Over.{over}
-use Rattle.parts.specs.Parts.{presetOnAt, presetAt, presetBytes}
+use Rattle.parts.specs.Parts.{presetOnAt, presetAt, presetBytes, countdownAt, kindAt}
+use Rattle.transfer.specs.Pending.{countdownOf, kindOf}
+use Rattle.transfer.specs.declared.pending.Pending.{Pending}
 use Rattle.layout.specs.Block.{load, save}
 use Rattle.layout.specs.Sgb.{Sgb, Game, Snes}
 use Rattle.rules.specs.Carry.{carried}
@@ -24,3 +26,7 @@ changedBlock f b = save (changed f (load b))
 -- the bytes with the preset ended: its flag and its words are zero
 abbrev pub presetEnded : List ℕ → List ℕ
 presetEnded b = over presetAt presetBytes (replicate presetBytes 0) (set b presetOnAt 0)
+
+-- the bytes with p pending
+abbrev pub pendingStored : Pending → List ℕ → List ℕ
+pendingStored p b = set (set b countdownAt (countdownOf p)) kindAt (kindOf p)

@@ -12,7 +12,7 @@ ghost use Rattle.commands.specs.Good.{GoodPlain};
 ghost use Rattle.commands.specs.Told.{toldPlain, toldFixed};
 ghost use Rattle.parts.specs.Parts.{blockBytes};
 ghost use Rattle.rules.specs.Carry.{withPalettes, withMap, withoutMask};
-ghost use Rattle.block_command.specs.Carrying.{Valid, carriedBlock, changedBlock, presetEnded};
+ghost use Rattle.block_command.specs.Carrying.{Valid, carriedBlock, changedBlock, presetEnded, pendingStored};
 use commands::Command;
 use commands::FixedCommand;
 use commands::PlainCommand;
@@ -34,6 +34,7 @@ use parts::PRESET;
 use parts::PRESET_ON;
 use parts::SYSTEM;
 use parts::TILES;
+use transfer::pending::Pending;
 use transfer::pending::Transfer;
 
 // The attribute commands get the packed map.
@@ -119,8 +120,20 @@ fn send(block: &mut [u8], t: Transfer)
     requires { ⌜ Valid (now block) ⌝ }
     ensures { λ _. ⌜ now (block .exit) ≡ carriedBlock (fixed (transfer t)) (now (block .entry)) ⌝ }
 {
-    block[COUNTDOWN] = 3;
-    block[KIND] = t.number();
+    let pending = Pending::In {
+        countdown: 3,
+        transfer: t,
+    };
+    store_pending(block, pending);
+}
+
+// What is pending, into its two bytes.
+pub fn store_pending(block: &mut [u8], pending: Pending)
+    requires { ⌜ length (now block) ≡ blockBytes ⌝ }
+    ensures { λ _. ⌜ now (block .exit) ≡ pendingStored pending (now (block .entry)) ⌝ }
+{
+    block[COUNTDOWN] = pending.countdown();
+    block[KIND] = pending.kind();
 }
 
 // PAL_SET's palettes: the preset ends, and each is the system palette that its number names.

@@ -5,7 +5,7 @@ use mathlib.Core.List.{List}
 use Prim.Native.Nat.{ℕ, _+_, _≤_}
 use native.Mathlib.Omega.{arith}
 use lib.Dec.{lit<, lit≤}
-use lib.ListN.{length, take, drop, set, length-take, length-drop}
+use lib.ListN.{length, take, drop, length-take, length-drop}
 use Rattle.parts.specs.Parts.{countdownAt, kindAt, systemAt, systemBytes, filesAt, filesBytes, liveAt, captureBytes, tilesAt, tilesBytes, halfBytes, upperTilesAt, borderMapAt, borderMapBytes, borderPalettesBytes, borderBytes}
 use Rattle.bits.specs.Over.{part, over}
 use Rattle.bits.proofs.Overs.{length-over, over-split}
@@ -26,17 +26,14 @@ use Rattle.layout.proofs.Made.{Made, made-of, made-put, made-set, made-save, ov
 use Rattle.layout.proofs.Saved.{clauses, save-load, long-part}
 use Rattle.rules.specs.Screen.{captured, withSystem, withFiles, withTiles, withBorder, landed, landing, shown, screened}
 use Rattle.rules.proofs.Keeps.{captured-good}
-use Rattle.block_command.specs.Carrying.{Valid}
+use Rattle.block_command.specs.Carrying.{Valid, pendingStored}
 use Rattle.block_screen.specs.Shown.{withSnes, snesBlock, countedDown}
 
 -- ---- the two bytes
 
 -- each call's answer put in
-pub counted-down : (b : List ℕ) (p q : Pending) (n k : ℕ) → p ≡ load b .snes .pending → q ≡ pending.fallen p → n ≡ countdownOf q → k ≡ kindOf q
-    → set (set b countdownAt n) kindAt k ≡ countedDown b
-counted-down b p q n k e f g h =
-    let w : q ≡ pending.fallen (load b .snes .pending) = f ∙ ap pending.fallen e in
-    (λ t. set (set b countdownAt (g t)) kindAt (h t)) ∙ ap (λ (x : Pending). set (set b countdownAt (countdownOf x)) kindAt (kindOf x)) w
+pub counted-down : (b last : List ℕ) (p q : Pending) → p ≡ load b .snes .pending → q ≡ pending.fallen p → last ≡ pendingStored q b → last ≡ countedDown b
+counted-down b last p q e f g = g ∙ ap (λ (x : Pending). pendingStored x b) (f ∙ ap pending.fallen e)
 
 -- ---- the block with the unit changed in one place
 

@@ -31,8 +31,7 @@ fn count_down(block: &mut [u8]) -> Landed
 {
     let pending = Pending::load(block[COUNTDOWN], block[KIND]);
     let left = pending.fall();
-    block[COUNTDOWN] = left.countdown();
-    block[KIND] = left.kind();
+    block_command::store_pending(block, left);
     pending.lands()
 }
 

@@ -1,23 +1,18 @@
--- Two bytes of the header are what is pending.
+-- What is pending goes into its two bytes.
+use mathlib.Core.Path.{_∙_}
 use Rattle.block_command.proofs.Carried.{sent-put}
 use borrow.Author.Needs.{needs}
 use Rattle.block_command.proofs.send.Statement.{statement}
 use Rattle.block_command.proofs.send.Tie as tie
 
-slice-write-block : tie.Need-slice-write-block
-slice-write-block c = search needs
-
-number-requires : tie.Need-number-requires
-number-requires c κs = search needs
-
-slice-write-block-2 : tie.Need-slice-write-block-2
-slice-write-block-2 c = search needs
+store-pending-requires : tie.Need-store-pending-requires
+store-pending-requires c κs = search needs
 
 same-length : tie.Need-same-length
 same-length c = search needs
 
 returns : tie.Need-returns
-returns c = sent-put _ (c .before .before .pre) _ _ (c .number .ensures)
+returns c = c .before .before .store-pending .ensures ∙ sent-put _ (c .before .before .before .before .before .pre) _
 
 pub send-spec : {M : Type 1} → statement M
-send-spec = tie.close (tie.spec slice-write-block number-requires slice-write-block-2 same-length returns)
+send-spec = tie.close (tie.spec store-pending-requires same-length returns)

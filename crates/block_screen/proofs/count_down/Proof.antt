@@ -20,17 +20,8 @@ load-requires c κs = search needs
 fall-requires : tie.Need-fall-requires
 fall-requires c κs = search needs
 
-countdown-requires : tie.Need-countdown-requires
-countdown-requires c κs = search needs
-
-slice-write-block : tie.Need-slice-write-block
-slice-write-block c = search needs
-
-kind-requires : tie.Need-kind-requires
-kind-requires c κs = search needs
-
-slice-write-block-2 : tie.Need-slice-write-block-2
-slice-write-block-2 c = search needs
+store-pending-requires : tie.Need-store-pending-requires
+store-pending-requires c κs = search needs
 
 lands-requires : tie.Need-lands-requires
 lands-requires c κs = search needs
@@ -40,10 +31,12 @@ same-length c = search needs
 
 returns : tie.Need-returns
 unfolding load landing
-returns c = (
-  c .lands .ensures ∙ ap pending.lands (c .before .before .before .before .load .ensures),
-  counted-down (c .before .before .before .before .before .before .before .before .args .block .now) _ _ _ _ (c .before .before .before .before .load .ensures) (c .before .before .before .fall .ensures) (c .before .before .countdown .ensures) (c .before .kind .ensures),
-)
+returns c =
+    let store = c .before .before .before in
+    let fall = store .before .before in
+    let load = fall .before in
+    let start = load .before .before .before .before in
+    (c .lands .ensures ∙ ap pending.lands (load .load .ensures), counted-down (start .args .block .now) _ _ _ (load .load .ensures) (fall .fall .ensures) (store .store-pending .ensures))
 
 pub count-down-spec : {M : Type 1} → statement M
-count-down-spec = tie.close (tie.spec slice-read-load slice-read-load-2 load-requires fall-requires countdown-requires slice-write-block kind-requires slice-write-block-2 lands-requires same-length returns)
+count-down-spec = tie.close (tie.spec slice-read-load slice-read-load-2 load-requires fall-requires store-pending-requires lands-requires same-length returns)
