@@ -9,14 +9,14 @@ use Rattle.attributes.specs.Data.{Whole}
 use Rattle.palettes.specs.Palettes as palette
 use Rattle.palettes.proofs.Lengths.{length-pal-set}
 use Rattle.commands.specs.Command as command
-use Rattle.commands.specs.Command.{fixed, plain, palSet, attrSet, decode}
+use Rattle.commands.specs.Command.{fixed, plain, maskEn, palSet, attrSet, decode}
 use Rattle.commands.specs.Files.{palSetMap, attrSetMap}
 use Rattle.commands.specs.Good.{GoodPlain, GoodCommand}
 use Rattle.commands.specs.Told.{told, toldPlain, toldFixed}
 use Rattle.commands.specs.declared.decoding.Command.{Command}
 use Rattle.commands.specs.declared.decoding.Command.the-variants.{Plain, Fixed}
 use Rattle.commands.specs.declared.decoding.PlainCommand.{PlainCommand}
-use Rattle.commands.specs.declared.decoding.PlainCommand.the-variants.{PalPair}
+use Rattle.commands.specs.declared.decoding.PlainCommand.the-variants.{PalPair, MaskEn}
 use Rattle.commands.specs.declared.decoding.FixedCommand.{FixedCommand}
 use Rattle.commands.proofs.Decoded.{decode-good}
 use Rattle.commands.proofs.Sizes.{length-attr-set, length-pal-set as length-pal-set-map}
@@ -111,6 +111,11 @@ plain-good p d w e = subst⁻¹ (λ (c : command.Command). GoodCommand c) e (dec
 pub pair-few : (c : PlainCommand) (a b : ℕ) (d : List ℕ) → c ≡ PalPair a b → GoodPlain (toldPlain c d) → (a < 4) × (b < 4)
 unfolding toldPlain
 pair-few c a b d e g = let h = subst (λ (x : PlainCommand). GoodPlain (toldPlain x d)) e g in (h .0, h .1)
+
+-- a plain MASK_EN is in a mode below 4 that is no freeze
+pub mask-plain : (c : PlainCommand) (m : ℕ) (d : List ℕ) → c ≡ MaskEn m → GoodPlain (toldPlain c d) → GoodPlain (maskEn m)
+unfolding toldPlain
+mask-plain c m d e g = subst (λ (x : PlainCommand). GoodPlain (toldPlain x d)) e g
 
 -- ---- a command on the block of a good unit leaves the block of that unit with the command carried out
 

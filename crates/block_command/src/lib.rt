@@ -95,7 +95,7 @@ fn mlt_req(block: &mut [u8], d1: u8)
 
 // MASK_EN in a mode that is no freeze: the frozen capture is dropped.
 fn mask_en(block: &mut [u8], mode: u8)
-    requires { ⌜ Valid (now block) ⌝ }
+    requires { ⌜ Valid (now block) × GoodPlain (maskEn mode) ⌝ }
     ensures { λ _. ⌜ now (block .exit) ≡ carriedBlock (plain (maskEn mode)) (now (block .entry)) ⌝ }
 {
     block[MASK] = mode;

@@ -2,7 +2,7 @@
 use mathlib.Core.Path.{_∙_}
 use Rattle.commands.specs.Told.{toldPlain}
 use Rattle.block_command.proofs.Carried.{nothing-done}
-use Rattle.block_command.proofs.Chain.{pair-few}
+use Rattle.block_command.proofs.Chain.{pair-few, mask-plain}
 use borrow.Author.Needs.{needs}
 use Rattle.block_command.proofs.carry_plain.Statement.{statement}
 use Rattle.block_command.proofs.carry_plain.Tie as tie
@@ -50,7 +50,9 @@ enum-known-c-3 : tie.Need-enum-known-c-3
 enum-known-c-3 c = search needs
 
 mask-en-requires : tie.Need-mask-en-requires
-mask-en-requires c κs = search needs
+mask-en-requires c κs =
+    let start = c .before .before .before .before .before .before in
+    (start .pre .0, mask-plain _ _ _ (c .before .before .c3 .given .1) (start .pre .2))
 
 enum-told-5 : tie.Need-enum-told-5
 enum-told-5 c = search needs

@@ -25,7 +25,7 @@ part-clear-start c = search needs
 part-clear-end : tie.Need-part-clear-end
 part-clear-end c =
     let start = c .before in
-    fits (set (now (start .args .block)) maskAt (start .args .mode)) (length-set (now (start .args .block)) maskAt (start .args .mode) ∙ start .pre .long) frozenOnAt 0 tilesAt (lit≤ tt)
+    fits (set (now (start .args .block)) maskAt (start .args .mode)) (length-set (now (start .args .block)) maskAt (start .args .mode) ∙ start .pre .0 .long) frozenOnAt 0 tilesAt (lit≤ tt)
 
 clear-requires : tie.Need-clear-requires
 clear-requires c κs = search needs
@@ -33,14 +33,14 @@ clear-requires c κs = search needs
 same-length : tie.Need-same-length
 same-length c =
     let start = c .before .before .before .before .before in
-    cleared-long frozenAt captureBytes (set (set (now (start .args .block)) maskAt (start .args .mode)) frozenOnAt 0) _ (fits (set (now (start .args .block)) maskAt (start .args .mode)) (length-set (now (start .args .block)) maskAt (start .args .mode) ∙ start .pre .long) frozenOnAt 0 (frozenAt + captureBytes) (lit≤ tt)) (c .before .before .clear .ensures)
+    cleared-long frozenAt captureBytes (set (set (now (start .args .block)) maskAt (start .args .mode)) frozenOnAt 0) _ (fits (set (now (start .args .block)) maskAt (start .args .mode)) (length-set (now (start .args .block)) maskAt (start .args .mode) ∙ start .pre .0 .long) frozenOnAt 0 (frozenAt + captureBytes) (lit≤ tt)) (c .before .before .clear .ensures)
     ∙ length-set (set (now (start .args .block)) maskAt (start .args .mode)) frozenOnAt 0
     ∙ length-set (now (start .args .block)) maskAt (start .args .mode)
 
 returns : tie.Need-returns
 returns c =
     let start = c .before .before .before .before .before in
-    cleared frozenAt captureBytes (set (set (now (start .args .block)) maskAt (start .args .mode)) frozenOnAt 0) _ (fits (set (now (start .args .block)) maskAt (start .args .mode)) (length-set (now (start .args .block)) maskAt (start .args .mode) ∙ start .pre .long) frozenOnAt 0 (frozenAt + captureBytes) (lit≤ tt)) (c .before .before .clear .ensures) ∙ mask-dropped _ (start .pre) (start .args .mode)
+    cleared frozenAt captureBytes (set (set (now (start .args .block)) maskAt (start .args .mode)) frozenOnAt 0) _ (fits (set (now (start .args .block)) maskAt (start .args .mode)) (length-set (now (start .args .block)) maskAt (start .args .mode) ∙ start .pre .0 .long) frozenOnAt 0 (frozenAt + captureBytes) (lit≤ tt)) (c .before .before .clear .ensures) ∙ mask-dropped _ (start .pre .0) (start .args .mode)
 
 pub mask-en-spec : {M : Type 1} → statement M
 mask-en-spec = tie.close (tie.spec slice-write-block slice-write-block-2 sub-clear part-clear-start part-clear-end clear-requires same-length returns)
