@@ -1,5 +1,6 @@
 // The SNES picture: the backdrop, the displayed screen at (48, 40), and the border over both (document 01, Screens, border and picture).
 // Rust: `snes_picture`. A row goes by runs of eight pixels (`picture_runs`) from tables that are made once: with a full border a sixth of the Rust's time.
+use colour::Rgb555;
 ghost use mathlib.Core.Path.{_≡_};
 ghost use Prim.Native.Nat.{_<_, _≤_, _+_, _/_, _%_};
 ghost use lib.ListN.{length};
@@ -29,7 +30,7 @@ pub fn tables(
     ensures { λ _. ⌜ now (game .exit) ≡ tab 16 (gameColor (now (palettes .entry)) (now (preset .entry)) «in_force» mode) ⌝ }
 {
     picture_lanes::fill_spreads(spreads);
-    let back = screen::backdrop(palettes, preset, in_force).0;
+    let back = screen::backdrop(palettes, preset, in_force);
     border_colors(border, borders, back);
     game_colors(game, palettes, preset, in_force, mode);
 }
@@ -106,26 +107,26 @@ pub fn row(
 }
 
 // Table by table.
-fn border_colors(out: &mut [u16], borders: &[u8], back: u16)
+fn border_colors(out: &mut [u16], borders: &[u8], back: Rgb555)
     requires { ⌜ (length (now out) ≡ 48) × (length (now borders) ≡ borderPalettesBytes) ⌝ }
-    ensures { λ _. ⌜ now (out .exit) ≡ tab 48 (borderColor (now (borders .entry)) back) ⌝ }
+    ensures { λ _. ⌜ now (out .exit) ≡ tab 48 (borderColor (now (borders .entry)) (back .0)) ⌝ }
 {
     let mut n = 0;
     while n < 48 {
-        out[n] = border_color(borders, back, n);
+        out[n] = border_color(borders, back, n).0;
         n += 1;
     }
 }
 
-fn border_color(borders: &[u8], back: u16, n: usize) -> u16
+fn border_color(borders: &[u8], back: Rgb555, n: usize) -> Rgb555
     requires { ⌜ (length (now borders) ≡ borderPalettesBytes) × (n < 48) ⌝ }
-    ensures { λ r. ⌜ r ≡ borderColor (now (borders .entry)) back n ⌝ }
+    ensures { λ r. ⌜ r .0 ≡ borderColor (now (borders .entry)) (back .0) n ⌝ }
 {
     if n % 16 == 0 {
         return back;
     }
     let at = n * 2;
-    bits::word(borders[at], borders[at + 1])
+    Rgb555::from_bytes(borders[at], borders[at + 1])
 }
 
 fn game_colors(out: &mut [u16], palettes: &[u8], preset: &[u8], in_force: bool, mode: u8)

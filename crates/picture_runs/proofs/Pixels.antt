@@ -64,9 +64,9 @@ module _ (tiles map attributes screen border game : List ℕ) (c y w l b at : �
       → Painted o m at 8 (λ j. runPixel (lane l j) border b (getD game (n * 4 + laneShade s j) 0)) → Painted o m at 8 (pixelIn tiles map attributes screen border game c y)
   both-run o m s n t p e q = painted-same q _ (λ j lt. by-lane j lt _ (ap (λ (v : ℕ). runPixel (lane l j) border b v) (on-screen s n j t p e lt)))
 
-  pub plain-run : (o m : List ℕ) → within c y ≡ false → l ≡ 0
-      → Painted o m at 8 (λ j. getD border 0 0) → Painted o m at 8 (pixelIn tiles map attributes screen border game c y)
-  plain-run o m t z q = painted-same q _ (λ j lt. by-lane j lt _ (clear j _ z (off-screen j t)))
+  pub plain-run : (o m : List ℕ) (color : ℕ) → color ≡ getD border 0 0 → within c y ≡ false → l ≡ 0
+      → Painted o m at 8 (λ j. color) → Painted o m at 8 (pixelIn tiles map attributes screen border game c y)
+  plain-run o m color e t z q = painted-same q _ (λ j lt. by-lane j lt _ (clear j _ z (e ∙ off-screen j t)))
 
   -- off the screen, the table has the backdrop where a lane is 0
   first-of : (i : ℕ) → getD border b 0 ≡ getD border 0 0 → getD border (b + i) 0 ≡ runPixel i border b (getD border 0 0)

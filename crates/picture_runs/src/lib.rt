@@ -1,6 +1,7 @@
 // A run: eight pixels of a row of the picture, those of one border cell. Colours come from tables made beforehand, in which a transparent
 // border pixel already has the backdrop, so that no branch follows the pixels.
 use colour::BorderMapEntry;
+use colour::Rgb555;
 ghost use mathlib.Core.Path.{_≡_};
 ghost use Prim.Native.Nat.{_<_, _≤_, _+_, _-_, _*_, _/_};
 ghost use mathlib.Core.Bool.{cond};
@@ -45,7 +46,7 @@ pub fn run(
         return;
     }
     if l == 0 {
-        run_plain(out, at, border[0]);
+        run_plain(out, at, color_in(border, 0));
         return;
     }
     run_border(out, at, l, border, b);
@@ -100,13 +101,13 @@ fn cell(attributes: &[u8], c: usize, y: usize) -> usize
 }
 
 // The four kinds of run. One colour:
-fn run_plain(out: &mut [u16], at: usize, color: u16)
+fn run_plain(out: &mut [u16], at: usize, color: Rgb555)
     requires { ⌜ at + 8 ≤ length (now out) ⌝ }
-    ensures { λ _. ⌜ Painted (now (out .exit)) (now (out .entry)) at 8 (λ j. color) ⌝ }
+    ensures { λ _. ⌜ Painted (now (out .exit)) (now (out .entry)) at 8 (λ j. color .0) ⌝ }
 {
     let mut j = 0;
     while j < 8 {
-        out[at + j] = color;
+        out[at + j] = color.0;
         j += 1;
     }
 }
@@ -119,7 +120,7 @@ fn run_border(out: &mut [u16], at: usize, l: u32, border: &[u16], base: usize)
     let mut j = 0;
     while j < 8 {
         let i = picture_lanes::nibble(l, j);
-        out[at + j] = border[base + i];
+        out[at + j] = color_in(border, base + i).0;
         j += 1;
     }
 }
@@ -132,7 +133,7 @@ fn run_game(out: &mut [u16], at: usize, s: u16, game: &[u16], n: usize)
     let mut j = 0;
     while j < 8 {
         let h = shade(s, j);
-        out[at + j] = game[n + h];
+        out[at + j] = color_in(game, n + h).0;
         j += 1;
     }
 }
@@ -155,14 +156,14 @@ fn run_both(
     while j < 8 {
         let i = picture_lanes::nibble(l, j);
         let h = shade(s, j);
-        out[at + j] = over(i, border[base + i], game[n + h]);
+        out[at + j] = over(i, color_in(border, base + i), color_in(game, n + h)).0;
         j += 1;
     }
 }
 
 // Both colours are read before the choice, which then needs no branch.
-fn over(i: usize, border: u16, below: u16) -> u16
-    ensures { λ r. ⌜ r ≡ cond (eqb i 0) below border ⌝ }
+fn over(i: usize, border: Rgb555, below: Rgb555) -> Rgb555
+    ensures { λ r. ⌜ r .0 ≡ cond (eqb i 0) (below .0) (border .0) ⌝ }
 {
     if i == 0 { below } else { border }
 }
@@ -173,4 +174,12 @@ fn shade(s: u16, j: usize) -> usize
     ensures { λ r. ⌜ (r ≡ laneShade s j) × (r < 4) ⌝ }
 {
     (s >> (14 - 2 * j) & 3) as usize
+}
+
+// Colour k of a lent table: it holds words, since a slice of structs can't be lent.
+fn color_in(table: &[u16], k: usize) -> Rgb555
+    requires { ⌜ k < length (now table) ⌝ }
+    ensures { λ r. ⌜ r .0 ≡ getD (now (table .entry)) k 0 ⌝ }
+{
+    Rgb555(table[k])
 }

@@ -14,21 +14,21 @@ returns c = rw (eq-eqb _ 0 (c .if1 .taken))
 mul-at : tie.Need-mul-at
 mul-at c = search needs
 
-shared-slice-read-word : tie.Need-shared-slice-read-word
-shared-slice-read-word c = search needs
+shared-slice-read-from-bytes : tie.Need-shared-slice-read-from-bytes
+shared-slice-read-from-bytes c = search needs
 
-add-word : tie.Need-add-word
-add-word c = search needs
+add-from-bytes : tie.Need-add-from-bytes
+add-from-bytes c = search needs
 
-shared-slice-read-word-2 : tie.Need-shared-slice-read-word-2
-shared-slice-read-word-2 c = search needs
+shared-slice-read-from-bytes-2 : tie.Need-shared-slice-read-from-bytes-2
+shared-slice-read-from-bytes-2 c = search needs
 
-word-requires : tie.Need-word-requires
-word-requires c κs = search needs
+from-bytes-requires : tie.Need-from-bytes-requires
+from-bytes-requires c κs = search needs
 
 returns-2 : tie.Need-returns-2
 unfolding borderColor wordAt
-returns-2 c = c .word .ensures ∙ rw (ne-eqb _ 0 (c .before .before .before .if1 .left))
+returns-2 c = c .from-bytes .ensures ∙ rw (ne-eqb _ 0 (c .before .before .before .if1 .left))
 
 pub border-color-spec : {M : Type 1} → statement M
 border-color-spec =
@@ -36,8 +36,8 @@ border-color-spec =
     (tie.spec
     returns
     mul-at
-    shared-slice-read-word
-    add-word
-    shared-slice-read-word-2
-    word-requires
+    shared-slice-read-from-bytes
+    add-from-bytes
+    shared-slice-read-from-bytes-2
+    from-bytes-requires
     returns-2)

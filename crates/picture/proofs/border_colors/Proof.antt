@@ -10,7 +10,7 @@ use Rattle.picture.proofs.border_colors.Statement.{statement}
 use Rattle.picture.proofs.border_colors.Tie as tie
 
 abbrev Inv-loop : tie.InvT-loop
-Inv-loop out₀ borders back n₀ out n = (n ≤ 48) × (length out ≡ length out₀) × Painted out out₀ 0 n (borderColor borders back)
+Inv-loop out₀ borders back n₀ out n = (n ≤ 48) × (length out ≡ length out₀) × Painted out out₀ 0 n (borderColor borders (back .0))
 
 abbrev μ-loop : tie.MeasureT-loop
 μ-loop out₀ borders back n₀ out n = 48 - n

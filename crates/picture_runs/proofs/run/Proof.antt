@@ -53,8 +53,8 @@ returns-2 c =
     (c .before .before .before .before .before .before .before .before .before .before .before .map-entry .ensures) (c .before .before .before .before .before .before .before .before .before .before .indices .ensures) (c .before .before .before .before .before .before .before .before .before .base .ensures .0)
     _ _ _ _ (sym (c .before .before .before .before .before .before .before .before .within-screen .ensures) ∙ c .before .before .before .before .before .before .before .if1 .taken) (c .before .before .before .before .before .before .shades .ensures) (c .before .before .before .before .before .cell .ensures .0) (c .before .before .run-both .ensures)
 
-shared-slice-read-run-plain : tie.Need-shared-slice-read-run-plain
-shared-slice-read-run-plain c = search needs
+color-in-requires : tie.Need-color-in-requires
+color-in-requires c κs = search needs
 
 run-plain-requires : tie.Need-run-plain-requires
 run-plain-requires c κs = search needs
@@ -67,7 +67,7 @@ returns-3 c =
     let a = c .before .before .before .before .before .before .before .before .before .before .before .before .before .before .before .before .before .before .before .args in
     plain-run (a .tiles .now) (a .map .now) (a .attributes .now) (a .screen .now) (a .border .now) (a .game .now) (a .c) (a .y) _ _ _ _
     (c .before .before .before .before .before .before .before .before .before .before .map-entry .ensures) (c .before .before .before .before .before .before .before .before .before .indices .ensures) (c .before .before .before .before .before .before .before .before .base .ensures .0)
-    _ _ (sym (c .before .before .before .before .before .before .before .within-screen .ensures) ∙ c .before .before .before .before .before .before .if1 .left) (c .before .before .before .before .before .if3 .taken) (c .before .before .run-plain .ensures)
+    _ _ _ (c .before .before .before .color-in .ensures) (sym (c .before .before .before .before .before .before .before .within-screen .ensures) ∙ c .before .before .before .before .before .before .if1 .left) (c .before .before .before .before .before .if3 .taken) (c .before .before .run-plain .ensures)
 
 run-border-requires : tie.Need-run-border-requires
 run-border-requires c κs = search needs
@@ -101,7 +101,7 @@ run-spec =
     run-both-requires
     same-length-2
     returns-2
-    shared-slice-read-run-plain
+    color-in-requires
     run-plain-requires
     same-length-3
     returns-3

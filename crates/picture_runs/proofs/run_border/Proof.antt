@@ -1,6 +1,6 @@
 -- Each turn writes the next pixel, from its lane.
 use Prim.Native.Nat.{ℕ, _+_, _-_, _≤_}
-use mathlib.Core.Path.{_≡_, refl, ap}
+use mathlib.Core.Path.{_≡_, refl, ap, _∙_}
 use native.Mathlib.Omega.{arith}
 use lib.ListN.{length, length-set, getD}
 use Rattle.bits.specs.Paint.{Painted}
@@ -21,20 +21,17 @@ loop-holds c = (omega arith, refl, painted-none)
 nibble-requires : tie.Need-nibble-requires Inv-loop μ-loop
 nibble-requires c κs = omega arith
 
+add-color-in : tie.Need-add-color-in Inv-loop μ-loop
+add-color-in c = omega arith
+
+color-in-requires : tie.Need-color-in-requires Inv-loop μ-loop
+color-in-requires c κs = omega arith
+
 add-out : tie.Need-add-out Inv-loop μ-loop
 add-out c = omega arith
 
 mul-out : tie.Need-mul-out Inv-loop μ-loop
 mul-out c = omega arith
-
-shared-slice-read-out : tie.Need-shared-slice-read-out Inv-loop μ-loop
-shared-slice-read-out c = omega arith
-
-add-out-2 : tie.Need-add-out-2 Inv-loop μ-loop
-add-out-2 c = omega arith
-
-mul-out-2 : tie.Need-mul-out-2 Inv-loop μ-loop
-mul-out-2 c = omega arith
 
 slice-write-out : tie.Need-slice-write-out Inv-loop μ-loop
 slice-write-out c = omega arith
@@ -49,7 +46,7 @@ loop-again : tie.Need-loop-again Inv-loop μ-loop
 loop-again c =
     let l = c .before .before .before .loop in
     let a = c .before .before .before .before .before .before .args in
-    (omega arith, simp length-set (l .inv .1), painted-turn (l .inv .2) _ _ refl (ap (λ (i : ℕ). getD (a .border .now) (a .base + i) 0) (c .before .nibble .ensures .0)))
+    (omega arith, simp length-set (l .inv .1), painted-turn (l .inv .2) _ _ refl (c .color-in .ensures ∙ ap (λ (i : ℕ). getD (a .border .now) (a .base + i) 0) (c .before .nibble .ensures .0)))
 
 same-length : tie.Need-same-length Inv-loop μ-loop
 same-length c = c .before .loop .inv .1
@@ -65,11 +62,10 @@ run-border-spec =
     μ-loop
     loop-holds
     nibble-requires
+    add-color-in
+    color-in-requires
     add-out
     mul-out
-    shared-slice-read-out
-    add-out-2
-    mul-out-2
     slice-write-out
     add-j
     loop-less

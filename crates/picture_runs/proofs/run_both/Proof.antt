@@ -1,7 +1,9 @@
 -- Each turn writes the next pixel, from its lane and its shade.
 use Prim.Native.Nat.{ℕ, _+_, _-_, _≤_}
 use mathlib.Core.Path.{_≡_, refl, ap₂, _∙_}
+use mathlib.Core.Bool.{cond}
 use native.Mathlib.Omega.{arith}
+use lib.Dec.{eqb}
 use lib.ListN.{length, length-set, getD}
 use Rattle.bits.specs.Paint.{Painted}
 use Rattle.bits.proofs.Painting.{painted-none, painted-turn, painted-count}
@@ -25,23 +27,17 @@ nibble-requires c κs = omega arith
 shade-requires : tie.Need-shade-requires Inv-loop μ-loop
 shade-requires c κs = omega arith
 
-add-over : tie.Need-add-over Inv-loop μ-loop
-add-over c = omega arith
+add-color-in : tie.Need-add-color-in Inv-loop μ-loop
+add-color-in c = omega arith
 
-mul-over : tie.Need-mul-over Inv-loop μ-loop
-mul-over c = omega arith
+color-in-requires : tie.Need-color-in-requires Inv-loop μ-loop
+color-in-requires c κs = omega arith
 
-shared-slice-read-over : tie.Need-shared-slice-read-over Inv-loop μ-loop
-shared-slice-read-over c = omega arith
+add-color-in-2 : tie.Need-add-color-in-2 Inv-loop μ-loop
+add-color-in-2 c = omega arith
 
-add-over-2 : tie.Need-add-over-2 Inv-loop μ-loop
-add-over-2 c = omega arith
-
-mul-over-2 : tie.Need-mul-over-2 Inv-loop μ-loop
-mul-over-2 c = omega arith
-
-shared-slice-read-over-2 : tie.Need-shared-slice-read-over-2 Inv-loop μ-loop
-shared-slice-read-over-2 c = omega arith
+color-in-requires-2 : tie.Need-color-in-requires-2 Inv-loop μ-loop
+color-in-requires-2 c κs = omega arith
 
 over-requires : tie.Need-over-requires Inv-loop μ-loop
 over-requires c κs = omega arith
@@ -65,7 +61,12 @@ loop-again : tie.Need-loop-again Inv-loop μ-loop
 loop-again c =
     let l = c .before .before .before .before .before .before .loop in
     let a = c .before .before .before .before .before .before .before .before .before .before .args in
-    let seen = c .over .ensures ∙ ap₂ (λ (i h : ℕ). runPixel i (a .border .now) (a .base) (getD (a .game .now) (a .n + h) 0)) (c .before .before .before .before .nibble .ensures .0) (c .before .before .before .shade .ensures .0) in
+    let shade = c .before .before .before in
+    let nibble = shade .before in
+    let seen =
+    c .over .ensures
+    ∙ (λ t. cond (eqb (nibble .nibble .result) 0) (c .before .color-in2 .ensures t) (c .before .before .color-in .ensures t))
+    ∙ ap₂ (λ (i h : ℕ). runPixel i (a .border .now) (a .base) (getD (a .game .now) (a .n + h) 0)) (nibble .nibble .ensures .0) (shade .shade .ensures .0) in
     (omega arith, simp length-set (l .inv .1), painted-turn (l .inv .2) _ _ refl seen)
 
 same-length : tie.Need-same-length Inv-loop μ-loop
@@ -83,12 +84,10 @@ run-both-spec =
     loop-holds
     nibble-requires
     shade-requires
-    add-over
-    mul-over
-    shared-slice-read-over
-    add-over-2
-    mul-over-2
-    shared-slice-read-over-2
+    add-color-in
+    color-in-requires
+    add-color-in-2
+    color-in-requires-2
     over-requires
     add-out
     mul-out

@@ -9,7 +9,7 @@ use Rattle.picture_runs.proofs.run_plain.Statement.{statement}
 use Rattle.picture_runs.proofs.run_plain.Tie as tie
 
 abbrev Inv-loop : tie.InvT-loop
-Inv-loop out₀ at color j₀ out j = (j ≤ 8) × (length out ≡ length out₀) × Painted out out₀ at j (λ i. color)
+Inv-loop out₀ at color j₀ out j = (j ≤ 8) × (length out ≡ length out₀) × Painted out out₀ at j (λ i. color .0)
 
 abbrev μ-loop : tie.MeasureT-loop
 μ-loop out₀ at color j₀ out j = 8 - j
