@@ -1,3 +1,4 @@
+pub mod Allowed
 pub mod Calling
 pub mod Determined
 pub mod Ties

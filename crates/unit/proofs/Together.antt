@@ -1,14 +1,15 @@
 -- Demand 3 over the public calls: from a valid block and a buffer with room for a command no write is refused, so the calls do what the rules
 -- do on blocks (`order`), and the buffer is told by the answers; two aligned logs then leave the same bytes and answer alike.
-use Prim.Native.Nat.{ℕ, _≤_}
+use Prim.Native.Nat.{ℕ, _*_, _/_, _≤_}
 use native.Mathlib.Omega.{arith}
 use mathlib.Core.Path.{_≡_, refl, sym, ap, _∙_}
 use mathlib.Core.Bool.{Bool, true, false, cond}
 use mathlib.Core.List.{List, [], _∷_, map}
-use mathlib.Core.Option.{Option}
+use mathlib.Core.Option.{Option, none, some}
 use borrow.Author.Tests.{eqb-true, le-leb}
 use lib.Dec.{eqb}
-use lib.ListN.{length}
+use lib.ListN.{length, drop}
+use lib.Seq.{take-at}
 use Rattle.pulses.specs.Answer.{Answer, refused, given}
 use Rattle.transfer.specs.Pending.{landedOf}
 use Rattle.parts.specs.Parts.{storeBytes, captureBytes}
@@ -18,16 +19,16 @@ use Rattle.layout.proofs.Saved.{clauses}
 use Rattle.layout.proofs.Goods.{valid-good, good-valid}
 use Rattle.rules.specs.Write.{written, answer}
 use Rattle.rules.specs.Screen.{screened, landing}
-use Rattle.rules.proofs.Keeps.{good-written, good-screened}
+use Rattle.rules.proofs.Keeps.{WholeIf, good-written, good-screened}
 use Rattle.order.specs.Log.{Act, write, screen, accepts, Seen, seen, Aligned}
 use Rattle.order.specs.Log as log
 use Rattle.order.specs.Blocks.{Called, calledWrite, calledScreen, writtenBlock, seenBlock, calls}
 use Rattle.order.proofs.BlockOrder.{block-order}
-use Rattle.block_write.specs.Bytes.{handed}
+use Rattle.block_write.specs.Bytes.{handed, packetsTold}
 use Rattle.view.specs.Looks.{leaves}
 use Rattle.view.proofs.Refusals.{answers}
 use Rattle.unit.specs.Calls.{packetsAnswered, writeAnswer, writeBlock, writeCommand, screenAnswer, screenBlock}
-use Rattle.unit.specs.Together.{Performed, doneWrite, doneScreen, performed}
+use Rattle.unit.specs.Together.{Reply, commandIn, commandOf, Performed, doneWrite, doneScreen, performed, repliesOf, bufferAfter, sightOf, performedBy}
 use Rattle.unit.proofs.Writes.{length-handed, answer-whole}
 
 -- ---- one call
@@ -41,10 +42,6 @@ write-taken b v buffer k h =
     sym (answers b _ (held b k)) ∙ ap (λ t. cond t (given (packetsAnswered (answer (load b) v))) (refused 6)) (le-leb storeBytes (length buffer) h)
 
 -- what a screen answers, of a valid block
-sightOf : Seen → Answer (Option ℕ)
-sightOf (log.refused n) = refused n
-sightOf (log.took l) = given (landedOf l)
-
 screen-taken : (b x : List ℕ) → valid b ≡ true → screenAnswer b x ≡ sightOf (seen (load b .snes) x)
 unfolding screenAnswer seen accepts
 screen-taken b x k = sym (answers b _ (held b k)) ∙ go (eqb (length x) captureBytes)
@@ -79,27 +76,44 @@ handed-long b v buffer k h = length-handed (answer (load b) v) buffer (answer-wh
 
 -- ---- a whole log
 
--- the buffer after some answers
-filled : List (Option (List ℕ)) → List ℕ → List ℕ
-filled [] buffer = buffer
-filled (a ∷ l) buffer = filled l (handed a buffer)
-
-doneOf : List ℕ → Called → Performed
-doneOf buffer o =
-    record { block = o .block; buffer = filled (o .answers) buffer; answers = map (λ a. given (packetsAnswered a)) (o .answers); sights = map sightOf (o .sights) }
-
-performed-calls : (b buffer : List ℕ) (l : List Act) → valid b ≡ true → storeBytes ≤ length buffer → performed b buffer l ≡ doneOf buffer (calls b l)
-unfolding performed calls doneOf filled doneWrite doneScreen calledWrite calledScreen writeBlock writeCommand leaves writtenBlock
+-- of a valid block, with room for a command, the calls do what the rules give: no write is refused, and the buffer is told by the answers
+pub performed-calls : (b buffer : List ℕ) (l : List Act) → valid b ≡ true → storeBytes ≤ length buffer → performed b buffer l ≡ performedBy buffer (calls b l)
+unfolding performed calls performedBy bufferAfter repliesOf doneWrite doneScreen calledWrite calledScreen writeBlock writeCommand leaves writtenBlock
 performed-calls b buffer [] k h = refl
 performed-calls b buffer (write v ∷ l) k h =
-    ap (λ a. doneWrite a (performed (leaves a (save (written (load b) v)) b) (leaves a (handed (answer (load b) v) buffer) buffer) l)) (write-taken b v buffer k h)
-    ∙ ap (doneWrite (given (packetsAnswered (answer (load b) v))))
+    ap
+    (λ a.
+    doneWrite (record { answer = a; buffer = leaves a (handed (answer (load b) v) buffer) buffer })
+    (performed (leaves a (save (written (load b) v)) b) (leaves a (handed (answer (load b) v) buffer) buffer) l))
+    (write-taken b v buffer k h)
+    ∙ ap (doneWrite (record { answer = given (packetsAnswered (answer (load b) v)); buffer = handed (answer (load b) v) buffer }))
     (performed-calls (writtenBlock b v) (handed (answer (load b) v) buffer) l (written-valid b v k) (omega (arith, handed-long b v buffer k h)))
 performed-calls b buffer (screen x ∷ l) k h =
     (λ t. doneScreen (screen-taken b x k t) (performed (screen-left b x k t) buffer l))
     ∙ ap (doneScreen (sightOf (seen (load b .snes) x))) (performed-calls (seenBlock b x) buffer l (seen-valid b x k) h)
 
+-- a reply holds the command that was answered
+held-command : (o : Option (List ℕ)) (buffer : List ℕ) → WholeIf o → commandIn (given (packetsAnswered o)) (handed o buffer) ≡ given o
+unfolding commandIn packetsAnswered packetsTold handed
+held-command none buffer w = refl
+held-command (some d) buffer w = ap (λ (l : List ℕ). given (some l)) (take-at d (drop (length d) buffer) (16 * (length d / 16)) (omega (arith, w .packets)))
+
+held-commands : (b buffer : List ℕ) (l : List Act) → valid b ≡ true → map commandOf (repliesOf (calls b l .answers) buffer) ≡ map given (calls b l .answers)
+unfolding calls repliesOf calledWrite calledScreen
+held-commands b buffer [] k = refl
+held-commands b buffer (write v ∷ l) k =
+    let z = held-commands (writtenBlock b v) (handed (answer (load b) v) buffer) l (written-valid b v k) in
+    let y = held-command (answer (load b) v) buffer (answer-whole (load b) v (valid-good b k)) in
+    λ t. y t ∷ z t
+held-commands b buffer (screen x ∷ l) k = held-commands (seenBlock b x) buffer l (seen-valid b x k)
+
+-- each write's answer is its command's bytes: what the caller holds after it is what the rules answer
+pub replies-commands : (b buffer : List ℕ) (l : List Act) → valid b ≡ true → storeBytes ≤ length buffer
+    → map commandOf (performed b buffer l .replies) ≡ map given (calls b l .answers)
+unfolding performedBy
+replies-commands b buffer l k h = ap (λ (o : Performed). map commandOf (o .replies)) (performed-calls b buffer l k h) ∙ held-commands b buffer l k
+
 -- demand 3: a valid block, a buffer with room, and two logs with the same writes and the same screens in which each fixed write has equally
--- many screens before it: the same block, the same buffer, and the same answer to each write and to each screen
+-- many screens before it: the same block, the same buffer after each write and at the end, and the same answer to each write and to each screen
 pub calls-order : (k buffer : List ℕ) → valid k ≡ true → storeBytes ≤ length buffer → (a b : List Act) → Aligned (load k) a b → performed k buffer a ≡ performed k buffer b
-calls-order k buffer v h a b e = performed-calls k buffer a v h ∙ ap (doneOf buffer) (block-order k v a b e) ∙ sym (performed-calls k buffer b v h)
+calls-order k buffer v h a b e = performed-calls k buffer a v h ∙ ap (performedBy buffer) (block-order k v a b e) ∙ sym (performed-calls k buffer b v h)
