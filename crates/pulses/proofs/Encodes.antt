@@ -1,17 +1,20 @@
 -- The encoder's three answers are the definition's, by the tests that the code makes; and what an answer tells is told by no other.
 use mathlib.Core.Path.{_≡_, refl, sym, ap, _∙_}
+use mathlib.Core.Bool.{Bool, true, false, cond}
 use mathlib.Core.List.{List, _++_}
 use Prim.Native.Nat.{ℕ, _*_, _<_, _≤_}
 use native.Mathlib.Omega.{arith}
-use lib.ListN.{length, drop}
+use lib.ListN.{length, take, drop}
+use lib.Seq.{take-at}
 use borrow.Author.Tests.{lt-ltb, le-ltb}
 use Rattle.bits.specs.Determined.{Once}
-use Rattle.pulses.specs.Answer.{given, encodedAnswer, verdictAnswer}
-use Rattle.pulses.specs.Bytes.{packetsIn, commandPackets}
+use Rattle.pulses.specs.Answer.{refused, given, encodedAnswer, verdictAnswer}
+use Rattle.pulses.specs.Bytes.{packetsIn, malformed, commandPackets}
 use Rattle.pulses.specs.Encode.{pulsesOf, short, encoding, encoded, Encodes}
 use Rattle.pulses.specs.declared.Encoded.the-variants as E
 use Rattle.pulses.specs.declared.Conformance.the-variants as C
-use Rattle.pulses.proofs.Commands.{none-malformed, some-formed}
+use Rattle.pulses.proofs.Commands.{formed, none-malformed, some-formed}
+use Rattle.pulses.proofs.Packets.{length-pulses}
 
 module _ (c o : List ℕ) (n : ℕ) (e : n ≡ commandPackets c) where
   pub answers-malformed : n ≡ 0 → Encodes c o E.Malformed o
@@ -39,6 +42,20 @@ module _ (c o : List ℕ) (n : ℕ) (e : n ≡ commandPackets c) where
         answer = rw (f .0 .taken, s) (ap (λ (j : ℕ). given (260 * j)) k);
         output = rw (f .0 .taken, s) (a ∙ ap (λ (j : ℕ). pulsesOf j c ++ drop (260 * j) o) k);
       }
+
+-- where the encoder answers a number of writes the command is one that it takes, and these are the command's pulses, at its output's front
+pub encoded-pulses : (c o after : List ℕ) (n : ℕ) → Encodes c o (E.Writes n) after → (malformed c ≡ false) × (take n after ≡ pulsesOf (packetsIn c) c)
+unfolding encodedAnswer encoding encoded
+encoded-pulses c o after n h = go (malformed c) refl (short c (length o)) (h .answer) (h .output)
+  where
+    go : (t : Bool) → malformed c ≡ t → (s : Bool) → given n ≡ cond t (refused 5) (cond s (refused 6) (given (260 * packetsIn c)))
+        → after ≡ cond t o (cond s o (pulsesOf (packetsIn c) c ++ drop (260 * packetsIn c) o)) → (t ≡ false) × (take n after ≡ pulsesOf (packetsIn c) c)
+    go true e s a b = absurd (let z : _≡_ {A = ℕ} 0 1 = cc in omega arith)
+    go false e true a b = absurd (let z : _≡_ {A = ℕ} 0 1 = cc in omega arith)
+    go false e false a b =
+        let k : n ≡ 260 * packetsIn c = cc in
+        let l : length (pulsesOf (packetsIn c) c) ≡ 260 * packetsIn c = length-pulses (packetsIn c) c (omega (arith, formed c e .whole)) in
+        (refl, ap (take n) b ∙ take-at (pulsesOf (packetsIn c) c) (drop (260 * packetsIn c) o) n (l ∙ sym k))
 
 -- ---- an answer is told by no other (two outcomes of a call are then equal: `unit`, proofs/Determined)
 

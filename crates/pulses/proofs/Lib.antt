@@ -4,4 +4,3 @@ pub mod Front
 pub mod Packets
 pub mod Returns
 pub mod Round
-pub mod Sends

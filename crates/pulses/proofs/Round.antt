@@ -1,16 +1,17 @@
 -- The round trip. A data pulse and its release add one bit, so the pulses of a packet, bit by bit from the lowest, make the number whose
 -- bytes are the packet; its stop puts those bytes behind the earlier ones; the last stop answers them all, and leaves the receiver idle.
 use mathlib.Core.Path.{_≡_, refl, sym, ap, ap₂, _∙_}
-use mathlib.Core.Bool.{true}
+use mathlib.Core.Bool.{true, false}
 use mathlib.Core.List.{List, [], _∷_, _++_, append-assoc}
-use mathlib.Core.Option.{some}
+use mathlib.Core.Option.{none, some}
 use Prim.Native.Nat.{ℕ, zero, suc, _+_, _-_, _*_, _/_, _%_, _^_, _<_, _≤_}
 use native.Mathlib.Nat.{mod-lt, mul-assoc, mul-comm, mul-left-comm, add-mul}
 use native.Mathlib.Omega.{arith}
 use lib.Dec.{lit<}
-use lib.ListN.{length, getD, take}
+use lib.ListN.{length, getD, take, replicate}
 use lib.Pow.{pow-add}
 use borrow.Author.Tests.{lt-ltb, le-leb, lt-leb, eq-eqb, ne-eqb}
+use Rattle.parts.specs.Parts.{storeBytes}
 use Rattle.bits.specs.Bit.{bitOf}
 use Rattle.receiver.specs.Count.{countOf}
 use Rattle.receiver.specs.Lines.{p14High, p15High, bothHigh, pulseBy, pulseOf}
@@ -102,21 +103,28 @@ data-bits (b ∷ bs) e n k p s rest h l =
 
 -- ---- a packet comes in: the start, its bits, and then the stop
 
-abbrev stop : List ℕ → List ℕ
+-- a packet's pulses up to its stop
+abbrev pub unstopped : List ℕ → List ℕ
+unstopped q = 0x00 ∷ 0x30 ∷ sent (bitsIn q)
+
+abbrev pub stop : List ℕ → List ℕ
 stop rest = 0x20 ∷ 0x30 ∷ rest
 
+pub packet-stop : (q rest : List ℕ) → packetPulses q ++ rest ≡ unstopped q ++ stop rest
+unfolding packetPulses
+packet-stop q rest = append-assoc (unstopped q) (0x20 ∷ 0x30 ∷ []) rest
+
 bits-in-order : (q : List ℕ) (e n : ℕ) (s rest : List ℕ) → length q ≡ 16
-    → heard (live e n 0 0 s) (sent (bitsIn q) ++ (0x20 ∷ 0x30 ∷ []) ++ rest) ≡ heard (live e n 128 (value (bitsIn q)) s) (stop rest)
+    → heard (live e n 0 0 s) (sent (bitsIn q) ++ rest) ≡ heard (live e n 128 (value (bitsIn q)) s) rest
 bits-in-order q e n s rest l =
     let m : length (bitsIn q) ≡ 128 = omega (arith, length-bitsIn q) in
-    ap (heard (live e n 0 0 s)) (append-assoc (sent (bitsIn q)) (0x20 ∷ 0x30 ∷ []) rest)
-    ∙ data-bits (bitsIn q) e n 0 0 s (stop rest) (bits-in q) (omega arith)
-    ∙ ap₂ (λ (i p : ℕ). heard (live e n i p s) (stop rest)) (omega arith) (omega arith)
+    data-bits (bitsIn q) e n 0 0 s rest (bits-in q) (omega arith)
+    ∙ ap₂ (λ (i p : ℕ). heard (live e n i p s) rest) (omega arith) (omega arith)
 
 -- to a receiver that awaits it
 pub next-sent : (q : List ℕ) (e n : ℕ) (s rest : List ℕ) → length q ≡ 16
-    → heard (awaiting e n s) (packetPulses q ++ rest) ≡ heard (live e n 128 (value (bitsIn q)) s) (stop rest)
-unfolding packetPulses heard told answered wrote afterPulse pulsed whenReceiving whenAwaiting quiet begun restarted filed answerOf emptied pulseOf pulseBy p14High p15High bothHigh bitOf
+    → heard (awaiting e n s) (unstopped q ++ rest) ≡ heard (live e n 128 (value (bitsIn q)) s) rest
+unfolding heard told answered wrote afterPulse pulsed whenReceiving whenAwaiting quiet begun restarted filed answerOf emptied pulseOf pulseBy p14High p15High bothHigh bitOf
 next-sent q e n s rest l = bits-in-order q e n s rest l
 
 -- to a receiver that holds no earlier packet: what it expects then is of no account
@@ -137,12 +145,9 @@ begins u rest h = go (u .rx .stage) refl h
     go Awaiting e k = absurd k
 
 pub first-sent : (u : Port) (q rest : List ℕ) → NoneHeld (u .rx) → length q ≡ 16
-    → heard u (packetPulses q ++ rest)
-    ≡ heard (live (expects (u .rx .stage) (u .rx .expected)) 0 128 (value (bitsIn q)) (u .store)) (stop rest)
-unfolding packetPulses
+    → heard u (unstopped q ++ rest) ≡ heard (live (expects (u .rx .stage) (u .rx .expected)) 0 128 (value (bitsIn q)) (u .store)) rest
 first-sent u q rest h l =
-    begins u (sent (bitsIn q) ++ (0x20 ∷ 0x30 ∷ []) ++ rest) h
-    ∙ bits-in-order q (expects (u .rx .stage) (u .rx .expected)) 0 (u .store) rest l
+    begins u (sent (bitsIn q) ++ rest) h ∙ bits-in-order q (expects (u .rx .stage) (u .rx .expected)) 0 (u .store) rest l
 
 -- ---- the stop: d packets are due, by the first byte of the first packet or as it was told then
 
@@ -156,12 +161,21 @@ unfolding heard told answered wrote afterPulse pulsed whenReceiving whenAwaiting
 stop-more e n p d s rest (by-count z h k) m = rw (eq-eqb n 0 z, h, ne-eqb d 0 (λ y. omega arith), lt-leb d (n + 1) m)
 stop-more e n p d s rest (as-told k h) m = rw (ne-eqb n 0 (λ y. omega arith), h, lt-leb d (n + 1) m)
 
-pub stop-last : (e n p d : ℕ) (s rest : List ℕ) → Due e n p d → d ≤ n + 1
-    → heard (live e n 128 p s) (stop rest) ≡ told (some (take (16 * (n + 1)) (appended s p n))) (heard resting rest)
-unfolding heard told answered wrote afterPulse pulsed whenIdle whenReceiving clocked stopped expecting kept quiet idle resting filed answerOf emptied pulseOf pulseBy p14High p15High bothHigh bitOf
-stop-last e n p d s rest (by-count z h k) m =
+-- the port at the last stop pulse: P14 is low yet, all else is at rest
+abbrev pub atStop : Port
+atStop = record { p15 = true; both = false; rx = idle; store = replicate storeBytes 0 }
+
+pub stop-last : (e n p d : ℕ) (s : List ℕ) → Due e n p d → d ≤ n + 1
+    → (answered (live e n 128 p s) 0x20 ≡ some (take (16 * (n + 1)) (appended s p n))) × (wrote (live e n 128 p s) 0x20 ≡ atStop)
+unfolding answered wrote afterPulse pulsed whenReceiving clocked stopped expecting kept quiet filed answerOf emptied pulseOf pulseBy p14High p15High bothHigh bitOf
+stop-last e n p d s (by-count z h k) m =
     let b : n + 1 - 1 ≡ n = omega arith in
-    rw (eq-eqb n 0 z, h, ne-eqb d 0 (λ y. omega arith), le-leb d (n + 1) m, b)
-stop-last e n p d s rest (as-told k h) m =
+    rw (eq-eqb n 0 z, h, ne-eqb d 0 (λ y. omega arith), le-leb d (n + 1) m, b) (refl, refl)
+stop-last e n p d s (as-told k h) m =
     let b : n + 1 - 1 ≡ n = omega arith in
-    rw (ne-eqb n 0 (λ y. omega arith), h, le-leb d (n + 1) m, b)
+    rw (ne-eqb n 0 (λ y. omega arith), h, le-leb d (n + 1) m, b) (refl, refl)
+
+-- its release
+pub release-last : (answered atStop 0x30 ≡ none) × (wrote atStop 0x30 ≡ resting)
+unfolding answered wrote afterPulse pulsed whenIdle quiet idle resting filed answerOf emptied pulseOf pulseBy p14High p15High bothHigh bitOf
+release-last = (refl, refl)

@@ -1,6 +1,6 @@
 // Commands as pulses and back: the encoder, and the verdict whether a command conforms.
-// Document 01, Pulses, verdict, log. Next door: one packet's pulses (`packet`), the rule of the verdict (`rule`), the way out and in
-// again (`trip`). The meaning is in specs/, the round trip in proofs/Returns.
+// Document 01, Pulses, verdict, log. Next door: one packet's pulses (`packet`), the rule of the verdict (`rule`). The meaning is in specs/,
+// the round trip in proofs/Returns.
 ghost use mathlib.Core.Path.{_≡_};
 ghost use Rattle.pulses.specs.Bytes.{commandPackets};
 ghost use Rattle.pulses.specs.Encode.{Encodes};
@@ -11,7 +11,6 @@ use receiver::packet_count;
 
 pub mod packet;
 pub mod rule;
-pub mod trip;
 
 // What the encoder answers: the command is malformed (refusal 5), the output is short (refusal 6), or this many writes.
 pub enum Encoded {
