@@ -20,7 +20,8 @@ use Rattle.order.specs.Log.{Act, write, screen, accepts, seen, shownIf, 
 use Rattle.order.specs.Blocks.{Called, calledWrite, calledScreen, writtenBlock, seenBlock, calls}
 use Rattle.order.proofs.Order.{order}
 
-saved : Outcome → Called
+-- an outcome with its unit as a block
+unfoldable pub saved : Outcome → Called
 saved o = record { block = save (o .last); answers = o .answers; sights = o .sights }
 
 -- ---- a screen of any length: the unit stays good, and its block is the one that the call leaves
@@ -51,17 +52,16 @@ calls-run u g (write v ∷ l) =
 calls-run u g (screen x ∷ l) =
     rw (good-back u g, sees-block u x g) (ap (calledScreen (seen (u .snes) x)) (calls-run (sees u x) (sees-good u x g) l))
 
+-- from a valid block the calls do what the rules do to the unit that it holds
+pub calls-saved : (k : List ℕ) → valid k ≡ true → (l : List Act) → calls k l ≡ saved (run (load k) l)
+calls-saved k v l = ap (λ c. calls c l) (sym (save-load k (clauses k v))) ∙ calls-run (load k) (valid-good k v) l
+
 -- demand 3: a valid block and two logs that are aligned: the same block at the end, and the same answer to each write and to each screen
 pub block-order : (k : List ℕ) → valid k ≡ true → (a b : List Act) → Aligned (load k) a b → calls k a ≡ calls k b
-block-order k v a b h =
-    ap (λ c. calls c a) (sym (save-load k (clauses k v)))
-    ∙ calls-run (load k) (valid-good k v) a
-    ∙ ap saved (order (load k) a b h)
-    ∙ sym (calls-run (load k) (valid-good k v) b)
-    ∙ ap (λ c. calls c b) (save-load k (clauses k v))
+block-order k v a b h = calls-saved k v a ∙ ap saved (order (load k) a b h) ∙ sym (calls-saved k v b)
 
 -- and every call of a log leaves a valid block
-run-good : (u : Sgb) → Good u → (l : List Act) → Good (run u l .last)
+pub run-good : (u : Sgb) → Good u → (l : List Act) → Good (run u l .last)
 unfolding run afterWrite afterScreen
 run-good u g [] = g
 run-good u g (write v ∷ l) = run-good (written u v) (good-written u v g) l
@@ -69,7 +69,4 @@ run-good u g (screen x ∷ l) = run-good (sees u x) (sees-good u x g) l
 
 pub calls-valid : (k : List ℕ) → valid k ≡ true → (l : List Act) → valid (calls k l .block) ≡ true
 unfolding saved
-calls-valid k v l =
-    ap (λ c. valid (calls c l .block)) (sym (save-load k (clauses k v)))
-    ∙ ap (λ o. valid (o .block)) (calls-run (load k) (valid-good k v) l)
-    ∙ good-valid (run (load k) l .last) (run-good (load k) (valid-good k v) l)
+calls-valid k v l = ap (λ o. valid (o .block)) (calls-saved k v l) ∙ good-valid (run (load k) l .last) (run-good (load k) (valid-good k v) l)

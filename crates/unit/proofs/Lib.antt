@@ -3,4 +3,5 @@ pub mod Calling
 pub mod Determined
 pub mod Ties
 pub mod Together
+pub mod Trip
 pub mod Writes

@@ -1,0 +1,56 @@
+-- A command sent to a unit by the public calls, pulse by pulse: what each write answers, and what the command makes of the block. Document 01,
+-- What the proofs owe a reader: a command turned into pulses comes back unchanged, "with no earlier packet held" (`NoneHeld` of the crate
+-- `pulses`). The theorem is `calls-round-trip` of proofs/Trip.
+use Prim.Native.Nat.{ℕ, zero, suc, _+_, _-_, _*_}
+use mathlib.Core.List.{List, [], _∷_, _++_}
+use mathlib.Core.Option.{none, some}
+use lib.Bits.{bitAnd}
+use lib.ListN.{length, drop, replicate}
+use Rattle.pulses.specs.Answer.{given}
+use Rattle.pulses.specs.Bytes.{packetsIn}
+use Rattle.pulses.specs.Encode.{bitsIn}
+use Rattle.pulses.specs.Trip.{resting}
+use Rattle.commands.specs.Command.{decode}
+use Rattle.layout.specs.Block.{load, save}
+use Rattle.layout.specs.Sgb.{Sgb}
+use Rattle.rules.specs.Carry.{withPads, carried}
+use Rattle.unit.specs.Together.{Reply, Performed}
+
+-- ---- the joypad index
+
+unfoldable pub ones : List ℕ → ℕ
+ones [] = 0
+ones (zero ∷ bs) = ones bs
+ones (suc b ∷ bs) = suc (ones bs)
+
+-- how often a command's pulses raise P15: it is low at a packet's start and at a bit that is one, and high again at the release of each
+unfoldable pub rises : List ℕ → ℕ
+rises c = packetsIn c + ones (bitsIn c)
+
+-- the index after n rises: "if P15 goes low to high, index = (index + 1) AND mask"
+unfoldable pub risen : ℕ → ℕ → ℕ → ℕ
+risen zero mask index = index
+risen (suc n) mask index = risen n mask (bitAnd (index + 1) mask)
+
+-- ---- the unit
+
+-- the unit after a command: all of its rises come before its last stop pulse, at which it is carried out; then the port is at rest
+unfoldable pub sentTo : Sgb → List ℕ → Sgb
+sentTo u c =
+    carried (decode c)
+    (record { port = resting; game = withPads (risen (rises c) (u .game .pads) (u .game .index)) (u .game .pads) (u .game); snes = u .snes })
+
+-- ---- the calls
+
+-- 260 writes a packet: none answers up to the last stop pulse, which answers the command, at the buffer's front; its release doesn't answer
+unfoldable pub returned : List ℕ → List ℕ → List ℕ → Performed
+returned b buffer c = record {
+  block = save (sentTo (load b) c);
+  buffer = c ++ drop (length c) buffer;
+  replies =
+      replicate (260 * packetsIn c - 2) (record { answer = given none; buffer = buffer })
+      ++ (record { answer = given (some (packetsIn c)); buffer = c ++ drop (length c) buffer }
+      ∷ record { answer = given none; buffer = c ++ drop (length c) buffer }
+      ∷ []);
+  sights = [];
+}
