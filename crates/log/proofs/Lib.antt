@@ -8,3 +8,5 @@ pub mod Whole
 pub mod Stepping
 pub mod Turns
 pub mod Prints
+pub mod Merged
+pub mod Examples
