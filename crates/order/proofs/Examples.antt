@@ -43,11 +43,11 @@ use Rattle.layout.proofs.Goods.{good-valid}
 use Rattle.rules.specs.Carry.{withPending, withPads, withPalettes, withMap, withMask, withoutMask, fixedly, fixedSnes, carriedGame, carriedSnes, carried}
 use Rattle.rules.specs.Write.{advanced, meant, carries, stepped, written}
 use Rattle.rules.specs.Screen.{captured, withSystem, landed, landing, shown}
-use Rattle.order.specs.Log.{Act, write, screen, accepts, shownIf, sees, afterWrite, afterScreen, run, writesOf, screensOf, screensBefore, fixedOf, fixedAt}
+use Rattle.order.specs.Log.{Act, write, screen, accepts, shownIf, sees, afterWrite, afterScreen, run, writesOf, screensOf, screensBefore, fixedOf, fixedAt, Aligned}
 use Rattle.order.proofs.Order.{order}
 
 -- the fresh unit, but that a packet with first byte b and zeros is in up to its stop pulse, and the page is due
-abbrev ready : ℕ → Sgb
+abbrev pub ready : ℕ → Sgb
 ready b = record {
   port =
       record {
@@ -60,7 +60,7 @@ ready b = record {
   snes = withPending (In 1 Palettes) (fresh true .snes);
 }
 
-ready-good : (b : ℕ) → b < 256 → Good (ready b)
+pub ready-good : (b : ℕ) → b < 256 → Good (ready b)
 unfolding fresh withPending
 ready-good b h =
     let g = fresh-good true in
@@ -89,26 +89,32 @@ pub ready-valid : (b : ℕ) → b < 256 → valid (save (ready b)) ≡ true
 ready-valid b h = good-valid (ready b) (ready-good b h)
 
 -- a screen of shade 3 all over
-abbrev shot : List ℕ
+abbrev pub shot : List ℕ
 shot = replicate captureBytes 0xFF
 
 -- the stop pulse, before the screen and after it
-abbrev early : List Act
+abbrev pub early : List Act
 early = write 0x20 ∷ screen shot ∷ []
 
-abbrev late : List Act
+abbrev pub late : List Act
 late = screen shot ∷ write 0x20 ∷ []
 
 -- PAL_SET, 51: its two places differ, in the second byte of the palettes
-pub pal-set-moves : run (ready 0x51) early ≡ run (ready 0x51) late → ⊥
+pub pal-set-ends : run (ready 0x51) early .last ≡ run (ready 0x51) late .last → ⊥
 unfolding fresh times wordBytes lowByte highByte withPending bitOf bitAt pairOf byteOf tab tabFrom word wordAt codeOf countOf p14High p15High bothHigh pulseBy pulseOf indexed receive.idle receive.quiet receive.kept receive.expecting receive.stopped receive.clocked receive.whenReceiving receive.pulsed receive.afterPulse bytesOf appended filed answerOf emptied answered wrote pairAt planeByte pageOf palettesLanded pending.fallen pending.lands systemNumber chosen palSet find decode palSetMap cancelled withPads withPalettes withMap withMask withoutMask fixedly fixedSnes carriedGame carriedSnes advanced meant carries carried stepped written captured withSystem landed landing shown accepts shownIf sees afterWrite afterScreen run
-pal-set-moves e = let z : _≡_ {A = ℕ} 127 255 = ap (λ o. getD (o .last .game .palettes) 1 0) e in omega arith
+pal-set-ends e = let z : _≡_ {A = ℕ} 127 255 = ap (λ u. getD (u .game .palettes) 1 0) e in omega arith
+
+pub pal-set-moves : run (ready 0x51) early ≡ run (ready 0x51) late → ⊥
+pal-set-moves e = pal-set-ends (ap (λ o. o .last) e)
 
 -- ATTR_DIV, 31: no write of this log is fixed, so it may be moved past the landing
-pub attr-div-moves : run (ready 0x31) early ≡ run (ready 0x31) late
+pub attr-div-aligned : Aligned (ready 0x31) early late
 unfolding bitOf codeOf countOf p14High p15High bothHigh pulseBy pulseOf receive.idle receive.quiet receive.kept receive.expecting receive.stopped receive.clocked receive.whenReceiving receive.pulsed receive.afterPulse bytesOf appended filed answerOf answered wrote find decode meant carries carried stepped written sees fixedOf fixedAt writesOf screensOf
-attr-div-moves = order (ready 0x31) early late (record { sameWrites = refl; sameScreens = refl; sameBefore = none-fixed })
+attr-div-aligned = record { sameWrites = refl; sameScreens = refl; sameBefore = none-fixed }
   where
     none-fixed : (i : ℕ) → IsSome (fixedAt (ready 0x31) early i) → screensBefore early i ≡ screensBefore late i
     none-fixed zero p = absurd p
     none-fixed (suc i) p = absurd p
+
+pub attr-div-moves : run (ready 0x31) early ≡ run (ready 0x31) late
+attr-div-moves = order (ready 0x31) early late attr-div-aligned
