@@ -157,7 +157,7 @@ module _ (u : Sgb) (g : Good u) where
 
   three-kept : v3 (save u) ≡ true
   three-kept =
-      unfold v3 in
+      unfold v3 load in
       and-true (leb (byte stageAt (save u)) 2) _ (unfold save in stage-small (u .port .rx .stage))
       (and-true (areBytes (part packetAt packetBytes (save u))) _ (ap areBytes (get 1 (lit< tt)) ∙ are-bytesOf packetBytes (u .port .rx .packet))
       (ap (λ w. receiverValid (w .port .rx) (w .port .store)) good-back ∙ v3-true (u .port .rx) (u .port .store) (g .port .receiver)))

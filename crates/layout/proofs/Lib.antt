@@ -4,3 +4,4 @@ pub mod Saved
 pub mod Goods
 pub mod Freshes
 pub mod Made
+pub mod Readings

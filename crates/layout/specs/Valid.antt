@@ -9,9 +9,10 @@ use lib.ListN.{length}
 use lib.Pow.{areBytes}
 use Rattle.bits.specs.Over.{part}
 use Rattle.bits.specs.Zero.{zeros}
+use Rattle.receiver.specs.Receive.{Rx}
 use Rattle.receiver.specs.Valid.{v3 as receiverValid}
-use Rattle.parts.specs.Parts.{blockBytes, maskAt, indexAt, padsAt, p15At, bothAt, stageAt, presetOnAt, countdownAt, kindAt, frozenOnAt, spareAt, spareBytes, packetAt, packetBytes, presetAt, presetBytes, captureBytes, frozenAt}
-use Rattle.layout.specs.Block.{byte, isSet, load}
+use Rattle.parts.specs.Parts.{blockBytes, maskAt, indexAt, padsAt, p15At, bothAt, stageAt, expectedAt, receivedAt, bitsAt, presetOnAt, countdownAt, kindAt, frozenOnAt, spareAt, spareBytes, packetAt, packetBytes, storeAt, storeBytes, presetAt, presetBytes, captureBytes, frozenAt}
+use Rattle.layout.specs.Block.{byte, isSet, stageOf, valueOf}
 
 -- "Bytes 0 and 2 at most 3; byte 1 has no bit outside byte 2."
 unfoldable pub v1 : List ℕ → Bool
@@ -27,12 +28,27 @@ v2 b =
     && (cond (isSet (byte bothAt b)) (isSet (byte p15At b)) true
     && zeros (part spareAt spareBytes b)))))
 
--- "Idle: .. Receiving: .. Awaiting: .. No other receiver number." The sentences are `Valid` of the crate `receiver`.
--- The packet is told by the number that its sixteen bytes make; of a lent block they always are bytes
+-- V3's fields by the bytes that hold them: byte 5 the receiver's number, 6 packets expected, 7 received, 8 the bit index, and from byte 16
+-- on the current packet, as the number that its sixteen bytes make; from byte 32 on the packet store. `load` reads them so (proofs/Readings)
+abbrev pub receiverIn : List ℕ → Rx
+receiverIn b =
+    record {
+      stage = stageOf (byte stageAt b);
+      expected = byte expectedAt b;
+      received = byte receivedAt b;
+      bits = byte bitsAt b;
+      packet = valueOf (part packetAt packetBytes b);
+    }
+
+abbrev pub storeIn : List ℕ → List ℕ
+storeIn b = part storeAt storeBytes b
+
+-- "Idle: .. Receiving: .. Awaiting: .. No other receiver number." The sentences, over these fields, are `Valid` of the crate `receiver`.
+-- That the packet is bytes is asked too, since a number stands for it; of a lent block they always are
 unfoldable pub v3 : List ℕ → Bool
 v3 b =
     leb (byte stageAt b) 2
-    && (areBytes (part packetAt packetBytes b) && receiverValid (load b .port .rx) (load b .port .store))
+    && (areBytes (part packetAt packetBytes b) && receiverValid (receiverIn b) (storeIn b))
 
 -- "Countdown and kind both 0, or countdown 1 to 3 and kind 0 to 4."
 unfoldable pub v4 : List ℕ → Bool
