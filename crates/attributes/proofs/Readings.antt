@@ -1,6 +1,6 @@
 -- Document 01's own sentences on the attribute commands, as laws of the definitions: each is a test that comes out one way.
 use mathlib.Core.Path.{_≡_, refl, sym, _∙_}
-use mathlib.Core.Bool.{Bool, true, false, cond}
+use mathlib.Core.Bool.{Bool, true, false, cond, not-eq-not}
 use mathlib.Core.List.{List}
 use Prim.Native.Nat.{ℕ, zero, suc, _+_, _%_, _<_, _≤_}
 use native.Mathlib.Omega.{arith}
@@ -44,18 +44,10 @@ module _ (s : BlkSet) (x y : ℕ) where
       (leb-true (s .x1) x (q .0), leb-true x (s .x2) (q .1), leb-true (s .y1) y (r .0), leb-true y (s .y2) (r .1))
 
   inside-not : (Inside → ⊥) → inside s x y ≡ false
-  inside-not h = go (inside s x y) refl
-    where
-      go : (t : Bool) → inside s x y ≡ t → t ≡ false
-      go true e = absurd (h (inside-says e))
-      go false e = refl
+  inside-not h = not-eq-not .0 (λ e. h (inside-says e))
 
   closed-not : (Closed → ⊥) → closed s x y ≡ false
-  closed-not h = go (closed s x y) refl
-    where
-      go : (t : Bool) → closed s x y ≡ t → t ≡ false
-      go true e = absurd (h (closed-says e))
-      go false e = refl
+  closed-not h = not-eq-not .0 (λ e. h (closed-says e))
 
   -- strictly between the corners both ways it is inside, which control bit 0 sets, to the palette in bits 0 and 1
   pub blk-inside : (old : ℕ) → Inside → blkCell s x y old ≡ cond (bitOf 0 (s .control)) (paletteAt 0 (s .palettes)) old

@@ -1,7 +1,7 @@
 -- V1 and V5 of document 01 in plain numbers, both ways: what is asked of a block's bytes is just what the test says. And V3's fields are
 -- the ones that a block loads as.
 use mathlib.Core.Path.{_≡_, refl, sym, ap, _∙_}
-use mathlib.Core.Bool.{Bool, true, false, false≢true}
+use mathlib.Core.Bool.{Bool, true, false, false≢true, not-eq-not}
 use mathlib.Core.List.{List}
 use Prim.Native.Nat.{ℕ, zero, suc, _+_, _*_, _/_, _%_, _^_, _<_, _≤_}
 use native.Mathlib.Nat.{pow-suc}
@@ -117,27 +117,20 @@ v5-true b h = either (λ (t : Bool). t ≡ true) (eqb (byte presetOnAt b) 0) (λ
 -- ---- so these blocks are not valid
 
 module _ (b : List ℕ) where
-  no : (valid b ≡ true → ⊥) → valid b ≡ false
-  no h = go (valid b) refl
-    where
-      go : (t : Bool) → valid b ≡ t → t ≡ false
-      go true e = absurd (h e)
-      go false e = refl
-
   -- a mask mode or a joypad mask over 3
   pub mask-over-3 : 3 < byte maskAt b → valid b ≡ false
-  mask-over-3 h = no (λ e. omega (arith, v1-says b (clauses b e .one) .mask))
+  mask-over-3 h = not-eq-not .0 (λ e. omega (arith, v1-says b (clauses b e .one) .mask))
 
   pub pads-over-3 : 3 < byte padsAt b → valid b ≡ false
-  pads-over-3 h = no (λ e. omega (arith, v1-says b (clauses b e .one) .pads))
+  pads-over-3 h = not-eq-not .0 (λ e. omega (arith, v1-says b (clauses b e .one) .pads))
 
   -- a bit of the joypad index that the joypad mask lacks
   pub index-outside : (k : ℕ) → bitOf k (byte indexAt b) ≡ true → bitOf k (byte padsAt b) ≡ false → valid b ≡ false
-  index-outside k i p = no (λ e. false≢true (sym p ∙ v1-says b (clauses b e .one) .index k i))
+  index-outside k i p = not-eq-not .0 (λ e. false≢true (sym p ∙ v1-says b (clauses b e .one) .index k i))
 
   -- a byte of a preset that is not in force
   pub preset-left : byte presetOnAt b ≡ 0 → (k : ℕ) → k < presetBytes → (byte (presetAt + k) b ≡ 0 → ⊥) → valid b ≡ false
-  preset-left z k h f = no (λ e. f (v5-says b (clauses b e .five) z k h))
+  preset-left z k h f = not-eq-not .0 (λ e. f (v5-says b (clauses b e .five) z k h))
 
 -- ---- V3's fields
 

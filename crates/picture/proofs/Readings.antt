@@ -2,7 +2,7 @@
 -- what a flip does to a tile.
 use Prim.Native.Nat.{ℕ, _+_, _-_, _*_, _/_, _%_, _^_, _<_, _≤_}
 use mathlib.Core.Path.{_≡_, refl, sym, _∙_}
-use mathlib.Core.Bool.{Bool, true, false, cond, _&&_}
+use mathlib.Core.Bool.{Bool, true, false, cond, _&&_, not-eq-not}
 use mathlib.Core.List.{List}
 use mathlib.Core.Option.{none, some}
 use native.Mathlib.Omega.{arith}
@@ -39,17 +39,16 @@ module _ (p : Parts) (x y : ℕ) where
   unfolding below
   on-screen (a, b, c, d) = rw (le-leb 48 x a, lt-ltb x (48 + 160) b, le-leb 40 y c, lt-ltb y (40 + 144) d)
 
+  on-says : onScreen x y ≡ true → OnScreen
+  on-says e =
+      let f = and-both (leb 48 x && ltb x (48 + 160)) (leb 40 y && ltb y (40 + 144)) e in
+      let g = and-both (leb 48 x) (ltb x (48 + 160)) (f .0) in
+      let k = and-both (leb 40 y) (ltb y (40 + 144)) (f .1) in
+      (leb-true 48 x (g .0), ltb-true x (48 + 160) (g .1), leb-true 40 y (k .0), ltb-true y (40 + 144) (k .1))
+
   pub off-screen : (OnScreen → ⊥) → below p x y ≡ backdropOf (p .palettes) (p .preset) (p .inForce)
   unfolding below
-  off-screen h = rw (go (onScreen x y) refl)
-    where
-      go : (t : Bool) → onScreen x y ≡ t → t ≡ false
-      go true e =
-          let f = and-both (leb 48 x && ltb x (48 + 160)) (leb 40 y && ltb y (40 + 144)) e in
-          let g = and-both (leb 48 x) (ltb x (48 + 160)) (f .0) in
-          let k = and-both (leb 40 y) (ltb y (40 + 144)) (f .1) in
-          absurd (h (leb-true 48 x (g .0), ltb-true x (48 + 160) (g .1), leb-true 40 y (k .0), ltb-true y (40 + 144) (k .1)))
-      go false e = refl
+  off-screen h = let n : onScreen x y ≡ false = not-eq-not .0 (λ e. h (on-says e)) in rw n
 
 -- ---- a pixel of the screen that is shown, neither black nor masked by the backdrop
 
