@@ -1,4 +1,5 @@
--- Writes in a row on a unit: one after the other by the rules (`Write` of the crate `rules`), up to the first that completes a command.
+-- Serves the loop over a line's writes; nobody need believe it: that it leads where the writes of a log do (`Events` of `log`) is
+-- log/proofs/Tells. Writes in a row on a unit: one after the other by the rules (`Write` of `rules`), up to the first that completes a command.
 use Prim.Native.Nat.{ℕ, suc}
 use mathlib.Core.List.{List, [], _∷_}
 use mathlib.Core.Option.{Option, none, some}

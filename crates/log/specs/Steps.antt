@@ -1,6 +1,7 @@
--- A reading's steps, with every byte that is lent: a step plays the decoded writes up to the next command, or takes the chunk up to the
--- next line's end; a fill is steps, one after the other, while there is more and room for their text. That they tell just what a log
--- tells (`Events`), however it is cut into chunks, is proved in proofs/.
+-- Serves the loops that read a log; nobody need believe it: that steps tell just what a log tells (`Events`), and print its text (`Texts`),
+-- however it is cut into chunks, is proofs/Prints, `replay-prints` and `plate-prints`. A reading's steps, with every byte that is lent: a
+-- step plays the decoded writes up to the next command, or takes the chunk up to the next line's end; a fill is steps, one after the
+-- other, while there is more and room for their text.
 use Prim.Native.Nat.{ℕ, zero, suc, _+_, _-_, _*_, _≤_, _<_}
 use mathlib.Core.Bool.{Bool, true, false, cond, not, _&&_}
 use mathlib.Core.List.{List, [], _∷_, _++_, map}

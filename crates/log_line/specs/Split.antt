@@ -1,4 +1,6 @@
--- What `split` does: the chunk's bytes from `at` up to the next LF, or to the chunk's end, join the line that is held in a buffer.
+-- Serves the loop that splits an input; nobody need believe it: that its steps give the input's lines (`Lines`) is proofs/Readings,
+-- `split-ends` and `split-goes-on`. What `split` does: the chunk's bytes from `at` up to the next LF, or to the chunk's end, join the line
+-- that is held in a buffer.
 use Prim.Native.Nat.{ℕ, _+_}
 use mathlib.Core.Bool.{true, false, cond}
 use mathlib.Core.Option.{Option, none, some}

@@ -1,4 +1,5 @@
--- The tables that the runs are drawn from, made once for all rows of a picture.
+-- Serves the loops of `row` and `picture`; nobody need believe it. The tables that the runs are drawn from, made once for all rows of a
+-- picture. What is drawn from them is what `Picture` next door says: proofs/Whole, `row-is` and `picture-is`.
 use Prim.Native.Nat.{ℕ, _*_, _/_, _%_}
 use mathlib.Core.Path.{_≡_}
 use mathlib.Core.Bool.{Bool, cond}

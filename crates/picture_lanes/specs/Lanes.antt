@@ -1,5 +1,5 @@
--- Numbers of four bits side by side in one word, the first lowest: the eight colour indices of a tile's row at once.
--- What an index is stands in `border`; this is only how eight of them are held.
+-- Serves the loop over the runs of a row; nobody need believe it. Numbers of four bits side by side in one word, the first lowest: the
+-- eight colour indices of a tile's row at once. What an index is stands in `border`; that the lanes hold it is proofs/Spreads, `all-lanes`.
 use Prim.Native.Nat.{ℕ, zero, suc, _+_, _-_, _*_, _/_, _%_, _^_}
 use mathlib.Core.Bool.{Bool, cond}
 use lib.Dec.{ltb}

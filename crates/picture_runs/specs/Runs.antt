@@ -1,5 +1,5 @@
--- How the picture is drawn: by runs of eight pixels, from tables of colours made once. What a pixel is stands in `picture`, specs/Picture;
--- that the runs give it is proved there, in proofs/Whole.
+-- Serves the loop over a row; nobody need believe it. How the picture is drawn: by runs of eight pixels, from tables of colours made once.
+-- What a pixel is stands in `picture`, specs/Picture; that the runs give it is proved there: proofs/Whole, `row-is`.
 use Prim.Native.Nat.{ℕ, _+_, _-_, _*_, _/_, _%_, _^_, _<_}
 use mathlib.Core.Path.{_≡_}
 use mathlib.Core.Bool.{Bool, cond, _&&_}

@@ -1,4 +1,5 @@
--- Many data pulses at once: what the fast run claims of the plain one (`receiver_run`'s definition `runs`), and nothing of its own.
+-- Serves the loops of `run_fast`; nobody need believe it: what the call promises is `runs` of `receiver_run`, as the plain run does.
+-- Many data pulses at once: what the fast run claims of the plain one, and nothing of its own.
 -- Pan Docs, Command packet transfers: a data pulse is one line low, and after it both go high.
 use Prim.Native.Nat.{ℕ, zero, suc, _+_, _*_, _^_, _<_, _≤_}
 use mathlib.Core.Path.{_≡_}

@@ -1,5 +1,6 @@
--- A run of writes: one after the other by document 01, A write, until one completes a command or they end. A complete command's bytes
--- stand at the front of the packet store, for the caller to carry out; only then the store is emptied (`cleared`).
+-- Serves the loops over writes; nobody need believe it: that runs hear what the writes say, one after the other (`heard` of `Port` in
+-- `receiver`), is proofs/Hears, `hears`. A run of writes ends as one completes a command or they end. A complete command's bytes stand at
+-- the front of the packet store, for the caller to carry out; only then the store is emptied (`cleared`).
 use Prim.Native.Nat.{ℕ, zero, suc, _*_, _<_}
 use mathlib.Core.Path.{_≡_}
 use mathlib.Core.List.{List, [], _∷_}

@@ -1,4 +1,5 @@
--- How `page` makes the page, in two passes; only its own functions cite this. That it is `pageOf` is proved in proofs/Pages.
+-- Serves the loops of `page`; nobody need believe it. How they make the page, in two passes. That it is `pageOf`, of `Page` next door, is
+-- proofs/Pages, `page-is`.
 use Prim.Native.Nat.{ℕ, _+_, _*_, _/_, _%_}
 use mathlib.Core.List.{List}
 use lib.ListN.{getD}
