@@ -2,8 +2,6 @@
 -- Document 01, Carried over: "four to a byte, first in the high bit pair"; The unit block: "palette numbers pack as shades do".
 -- Pan Docs, Attributes: four cells to a byte, the leftmost in bits 6-7.
 use Prim.Native.Nat.{ℕ, _+_, _-_, _*_, _/_, _%_, _^_}
-use mathlib.Core.Bool.{cond}
-use lib.Dec.{eqb}
 
 -- pair j of a packed byte
 unfoldable pub pairOf : ℕ → ℕ → ℕ
@@ -12,7 +10,3 @@ pairOf x j = x / 4 ^ (3 - j) % 4
 -- the byte whose pairs are f 0, f 1, f 2, f 3
 unfoldable pub packed : (ℕ → ℕ) → ℕ
 packed f = f 0 * 64 + f 1 * 16 + f 2 * 4 + f 3
-
--- x with v in the place of its pair j
-unfoldable pub withPair : ℕ → ℕ → ℕ → ℕ
-withPair x j v = packed (λ i. cond (eqb i j) v (pairOf x i))

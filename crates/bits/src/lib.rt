@@ -5,7 +5,7 @@ ghost use Prim.Native.Nat.{_+_, _<_, _≤_};
 ghost use lib.ListN.{length, replicate};
 ghost use Rattle.bits.specs.Word.{word, lowByte, highByte};
 ghost use Rattle.bits.specs.Eight.{eightAt};
-ghost use Rattle.bits.specs.Pair.{pairOf, withPair};
+ghost use Rattle.bits.specs.Pair.{pairOf};
 ghost use Rattle.bits.specs.Plane.{nibbleOf, planeOf};
 ghost use Rattle.bits.specs.Over.{over};
 ghost use Rattle.bits.specs.Zero.{zeros};
@@ -57,15 +57,6 @@ pub fn pair(x: u8, j: u8) -> u8
     ensures { λ r. ⌜ r ≡ pairOf x j ⌝ }
 {
     x >> (6 - 2 * j) & 3
-}
-
-// x with v as its pair j.
-pub fn with_pair(x: u8, j: u8, v: u8) -> u8
-    requires { ⌜ (j < 4) × (v < 4) ⌝ }
-    ensures { λ r. ⌜ r ≡ withPair x j v ⌝ }
-{
-    let at = 6 - 2 * j;
-    x & !(3 << at) | v << at
 }
 
 // The low plane of the eight pixels that a and b pack.

@@ -3,7 +3,7 @@ ghost use mathlib.Core.Path.{_≡_};
 ghost use Prim.Native.Nat.{_+_, _<_, _≤_};
 ghost use lib.ListN.{length};
 ghost use Rattle.bits.specs.Word.{word, lowByte, highByte};
-ghost use Rattle.bits.specs.Pair.{pairOf, withPair};
+ghost use Rattle.bits.specs.Pair.{pairOf};
 ghost use Rattle.bits.specs.Plane.{planeOf};
 ghost use Rattle.bits.specs.Over.{over};
 ghost use Rattle.colour.specs.Entry.{tileOf, paletteOf};
@@ -37,14 +37,6 @@ pub extern "C" fn probe_pair(x: u8, j: u8) -> u8
     ensures { λ r. ⌜ r ≡ pairOf x j ⌝ }
 {
     bits::pair(x, j)
-}
-
-#[no_mangle]
-pub extern "C" fn probe_with_pair(x: u8, j: u8, v: u8) -> u8
-    requires { ⌜ (j < 4) × (v < 4) ⌝ }
-    ensures { λ r. ⌜ r ≡ withPair x j v ⌝ }
-{
-    bits::with_pair(x, j, v)
 }
 
 #[no_mangle]

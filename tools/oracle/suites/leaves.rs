@@ -1,5 +1,5 @@
 //! The leaves of `bits` and `colour` and the packet count, exhaustively: each byte, pair of bytes and word, and every lent slice up to a few
-//! bytes. What the Rust has no function for (`put`, `all_zero`, a pair set in a byte) is held to its plain meaning.
+//! bytes. What the Rust has no function for (`put`, `all_zero`) is held to its plain meaning.
 
 use crate::block;
 use crate::ctx::Ctx;
@@ -18,9 +18,8 @@ unsafe extern "C" {
     safe fn probe_flip_y(w: u16) -> u8;
     safe fn probe_low_plane(a: u8, b: u8) -> u8;
     safe fn probe_high_plane(a: u8, b: u8) -> u8;
-    // j and v below 4
+    // j below 4
     fn probe_pair(x: u8, j: u8) -> u8;
-    fn probe_with_pair(x: u8, j: u8, v: u8) -> u8;
     // at + src within dst; a slice is a pointer and a length
     fn probe_put(dst: *mut u8, dst_len: usize, at: usize, src: *const u8, src_len: usize);
     fn probe_all_zero(s: *const u8, len: usize) -> u8;
@@ -66,7 +65,7 @@ fn words(ctx: &mut Ctx) {
     }
 }
 
-/// Every packed byte, each of its pairs taken, and set to each number. The Rust takes them as an attribute file's cells.
+/// Every packed byte, each of its pairs taken. The Rust takes them as an attribute file's cells.
 fn pairs(ctx: &mut Ctx) {
     for x in 0..=255u8 {
         let cells = oracle::attribute_cells(&[x])[0];
@@ -74,13 +73,6 @@ fn pairs(ctx: &mut Ctx) {
             let at = usize::from(j);
             let pair = unsafe { probe_pair(x, j) };
             ctx.same(|| format!("pair {j} of {x:02X}"), pair, cells[at]);
-            for v in 0..4u8 {
-                let mut changed = cells[..4].to_vec();
-                changed[at] = v;
-                let set = unsafe { probe_with_pair(x, j, v) };
-                let what = || format!("pair {j} of {x:02X} set to {v}");
-                ctx.same(what, set, block::pack(&changed)[0]);
-            }
         }
     }
 }
