@@ -9,17 +9,21 @@ use Rattle.bits.specs.Word.{wordAt}
 abbrev pub paletteBytes : ℕ
 paletteBytes = 8
 
--- the n colours from colour c of palette p on, taken from byte `from` of d
-abbrev pub coloured : ℕ → ℕ → ℕ → ℕ → List ℕ → List ℕ → List ℕ
-coloured p c n from d pals = over (paletteBytes * p + 2 * c) (2 * n) (part from (2 * n) d) pals
+-- word d1 as colour 0 of palette p
+abbrev pub firstColour : ℕ → List ℕ → List ℕ → List ℕ
+firstColour p d pals = over (paletteBytes * p) 2 (part 1 2 d) pals
+
+-- the three words of d from byte `from` on as colours 1 to 3 of palette p
+abbrev pub otherColours : ℕ → ℕ → List ℕ → List ℕ → List ℕ
+otherColours p from d pals = over (paletteBytes * p + 2) 6 (part from 6 d) pals
 
 -- word d1 as colour 0 of all four
 unfoldable pub shared : List ℕ → List ℕ → List ℕ
-shared d pals = coloured 3 0 1 1 d (coloured 2 0 1 1 d (coloured 1 0 1 1 d (coloured 0 0 1 1 d pals)))
+shared d pals = firstColour 3 d (firstColour 2 d (firstColour 1 d (firstColour 0 d pals)))
 
 -- PAL01, PAL23, PAL03, PAL12, for palettes a and b: word d1 is colour 0 of all four; words from d3 are colours 1 to 3 of a, from d9 of b
 unfoldable pub palPair : ℕ → ℕ → List ℕ → List ℕ → List ℕ
-palPair a b d pals = coloured b 1 3 9 d (coloured a 1 3 3 d (shared d pals))
+palPair a b d pals = otherColours b 9 d (otherColours a 3 d (shared d pals))
 
 -- PAL_SET: the system palette for palette i, the low nine bits of the word at d[1 + 2 i]
 unfoldable pub systemNumber : List ℕ → ℕ → ℕ
