@@ -83,10 +83,11 @@ lines-last u (m ∷ ms) t = line-last u m (actsIn ms) (t .0) ∙ lines-last (aft
 
 -- ---- the commands
 
-unfoldable answered : List (Option (List ℕ)) → List (List ℕ)
-answered [] = []
-answered (none ∷ l) = answered l
-answered (some c ∷ l) = c ∷ answered l
+-- the commands among the answers to writes
+unfoldable commandsAmong : List (Option (List ℕ)) → List (List ℕ)
+commandsAmong [] = []
+commandsAmong (none ∷ l) = commandsAmong l
+commandsAmong (some c ∷ l) = c ∷ commandsAmong l
 
 commands-append : (es fs : List Event) → commandsOf (es ++ fs) ≡ commandsOf es ++ commandsOf fs
 unfolding commandsOf
@@ -95,7 +96,7 @@ commands-append (completed c ∷ es) fs = ap (λ (l : List (List ℕ)). c ∷ l)
 commands-append (refusal k ∷ es) fs = commands-append es fs
 
 writes-told : (u : Sgb) (ws : List ℕ) (l : List order.Act)
-    → answered (order.run u (map order.write ws ++ l) .answers) ≡ commandsOf (writeEvents u ws) ++ answered (order.run (afterWrites u ws) l .answers)
+    → commandsAmong (order.run u (map order.write ws ++ l) .answers) ≡ commandsOf (writeEvents u ws) ++ commandsAmong (order.run (afterWrites u ws) l .answers)
 unfolding order.run order.afterWrite afterWrites writeEvents commandsOf
 writes-told u [] l = refl
 writes-told u (v ∷ vs) l = go (answer u v) (writes-told (written u v) vs l)
@@ -103,20 +104,20 @@ writes-told u (v ∷ vs) l = go (answer u v) (writes-told (written u v) vs l)
     rest : List (Option (List ℕ))
     rest = order.run (written u v) (map order.write vs ++ l) .answers
 
-    go : (o : Option (List ℕ)) → answered rest ≡ commandsOf (writeEvents (written u v) vs) ++ answered (order.run (afterWrites (written u v) vs) l .answers)
-        → answered (o ∷ rest) ≡ commandsOf (answerEvents o ++ writeEvents (written u v) vs) ++ answered (order.run (afterWrites (written u v) vs) l .answers)
-    go none e = unfold answered answerEvents in e
-    go (some c) e = unfold answered answerEvents in ap (λ (x : List (List ℕ)). c ∷ x) e
+    go : (o : Option (List ℕ)) → commandsAmong rest ≡ commandsOf (writeEvents (written u v) vs) ++ commandsAmong (order.run (afterWrites (written u v) vs) l .answers)
+        → commandsAmong (o ∷ rest) ≡ commandsOf (answerEvents o ++ writeEvents (written u v) vs) ++ commandsAmong (order.run (afterWrites (written u v) vs) l .answers)
+    go none e = unfold commandsAmong answerEvents in e
+    go (some c) e = unfold commandsAmong answerEvents in ap (λ (x : List (List ℕ)). c ∷ x) e
 
 line-told : (u : Sgb) (k : ℕ) (m : Meaning) (l : List order.Act) → Accepted m
-    → answered (order.run u (lineActs m ++ l) .answers) ≡ commandsOf (lineEvents u k m) ++ answered (order.run (afterLine u m) l .answers)
+    → commandsAmong (order.run u (lineActs m ++ l) .answers) ≡ commandsOf (lineEvents u k m) ++ commandsAmong (order.run (afterLine u m) l .answers)
 unfolding order.run order.afterScreen lineActs afterLine lineEvents commandsOf Accepted
 line-told u k (writes ws) l t = writes-told u ws l
-line-told u k (screen x) l t = ap (λ (w : Sgb). answered (order.run w l .answers)) (sees-screened u x t)
+line-told u k (screen x) l t = ap (λ (w : Sgb). commandsAmong (order.run w l .answers)) (sees-screened u x t)
 line-told u k refused l t = refl
 
-lines-told : (u : Sgb) (k : ℕ) (ms : List Meaning) → AllAccepted ms → answered (order.run u (actsIn ms) .answers) ≡ commandsOf (eventsFrom u k ms)
-unfolding order.run actsIn eventsFrom commandsOf answered AllAccepted
+lines-told : (u : Sgb) (k : ℕ) (ms : List Meaning) → AllAccepted ms → commandsAmong (order.run u (actsIn ms) .answers) ≡ commandsOf (eventsFrom u k ms)
+unfolding order.run actsIn eventsFrom commandsOf commandsAmong AllAccepted
 lines-told u k [] t = refl
 lines-told u k (m ∷ ms) t =
     line-told u k m (actsIn ms) (t .0)
@@ -206,7 +207,7 @@ module _ (a b : List ℕ) (same : order.Aligned (fresh true) (actsOf a) (actsOf 
   unfolding eventsOf meanings actsOf
   logs-tell-alike =
       sym (lines-told (fresh true) 1 (meanings a) (all-accepted (linesOf a)))
-      ∙ ap (λ (o : order.Outcome). answered (o .answers)) (proved.order (fresh true) (actsOf a) (actsOf b) same)
+      ∙ ap (λ (o : order.Outcome). commandsAmong (o .answers)) (proved.order (fresh true) (actsOf a) (actsOf b) same)
       ∙ lines-told (fresh true) 1 (meanings b) (all-accepted (linesOf b))
 
   pub replays-alike-but-refusals : unrefusedText a ≡ unrefusedText b

@@ -1,6 +1,6 @@
 -- Demand 3 of the contracts themselves: whatever the contracts of `write_joypad` and `update_screen` allow, call after call on one block with
 -- one buffer, is what `performed` says; so two aligned logs, run by any such calls, are answered alike and end alike.
-use mathlib.Core.Path.{_≡_, refl, sym, ap, _∙_}
+use mathlib.Core.Path.{_≡_, sym, ap, _∙_}
 use mathlib.Core.Bool.{true}
 use mathlib.Core.List.{List, [], _∷_}
 use Prim.Native.Nat.{ℕ, _≤_}

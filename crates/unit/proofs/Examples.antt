@@ -10,7 +10,7 @@ use Rattle.layout.specs.Block.{load, save}
 use Rattle.layout.specs.Sgb.{Sgb}
 use Rattle.layout.proofs.Goods.{valid-good, good-back}
 use Rattle.order.specs.Log.{Act, run, Aligned}
-use Rattle.order.specs.Blocks.{Called, calls}
+use Rattle.order.specs.Blocks.{Called}
 use Rattle.order.proofs.BlockOrder.{saved, calls-saved, run-good}
 use Rattle.order.proofs.Examples.{ready, ready-good, ready-valid, early, late, pal-set-ends, attr-div-aligned}
 use Rattle.unit.specs.Together.{Performed, performed, performedBy}

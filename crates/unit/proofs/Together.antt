@@ -10,7 +10,7 @@ use borrow.Author.Tests.{eqb-true, le-leb}
 use lib.Dec.{eqb}
 use lib.ListN.{length, drop}
 use lib.Seq.{take-at}
-use Rattle.pulses.specs.Answer.{Answer, refused, given}
+use Rattle.pulses.specs.Answer.{refused, given}
 use Rattle.transfer.specs.Pending.{landedOf}
 use Rattle.parts.specs.Parts.{storeBytes, captureBytes}
 use Rattle.layout.specs.Block.{load, save}
@@ -20,15 +20,15 @@ use Rattle.layout.proofs.Goods.{valid-good, good-valid}
 use Rattle.rules.specs.Write.{written, answer}
 use Rattle.rules.specs.Screen.{screened, landing}
 use Rattle.rules.proofs.Keeps.{WholeIf, good-written, good-screened}
-use Rattle.order.specs.Log.{Act, write, screen, accepts, Seen, seen, Aligned}
+use Rattle.order.specs.Log.{Act, write, screen, accepts, seen, Aligned}
 use Rattle.order.specs.Log as log
-use Rattle.order.specs.Blocks.{Called, calledWrite, calledScreen, writtenBlock, seenBlock, calls}
+use Rattle.order.specs.Blocks.{calledWrite, calledScreen, writtenBlock, seenBlock, calls}
 use Rattle.order.proofs.BlockOrder.{block-order}
 use Rattle.block_write.specs.Bytes.{handed, packetsTold}
 use Rattle.view.specs.Looks.{leaves}
 use Rattle.view.proofs.Refusals.{answers}
 use Rattle.unit.specs.Calls.{packetsAnswered, writeAnswer, writeBlock, writeCommand, screenAnswer, screenBlock}
-use Rattle.unit.specs.Together.{Reply, commandIn, commandOf, Performed, doneWrite, doneScreen, performed, repliesOf, bufferAfter, sightOf, performedBy}
+use Rattle.unit.specs.Together.{commandIn, commandOf, Performed, doneWrite, doneScreen, performed, repliesOf, bufferAfter, sightOf, performedBy}
 use Rattle.unit.proofs.Writes.{length-handed, answer-whole}
 
 -- ---- one call

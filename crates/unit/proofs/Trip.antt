@@ -7,14 +7,14 @@ use mathlib.Core.Bool.{Bool, true, false}
 use mathlib.Core.List.{List, [], _∷_, _++_, map, append-nil, map-append}
 use mathlib.Core.Option.{Option, none, some}
 use lib.ListN.{length, take, drop, replicate, length-append, length-drop, take-append-drop}
-use lib.Seq.{length-take-le, take-all}
+use lib.Seq.{take-all}
 use Rattle.parts.specs.Parts.{storeBytes}
 use Rattle.bits.specs.Bit.{bitOf}
-use Rattle.receiver.specs.Lines.{p14High, p15High, bothHigh, indexed}
+use Rattle.receiver.specs.Lines.{p15High, indexed}
 use Rattle.receiver.specs.Port.{Port, Heard, told, heard, answered, wrote}
 use Rattle.pulses.specs.Answer.{given}
 use Rattle.pulses.specs.Bytes.{Bytes, packetsIn, malformed}
-use Rattle.pulses.specs.Encode.{bitsOf, bitsIn, pulse, sent, packetPulses, pulsesOf, Encodes}
+use Rattle.pulses.specs.Encode.{bitsOf, bitsIn, pulse, sent, pulsesOf, Encodes}
 use Rattle.pulses.specs.Trip.{NoneHeld, resting}
 use Rattle.pulses.specs.declared.Encoded.the-variants as E
 use Rattle.pulses.proofs.Commands.{formed}
@@ -27,18 +27,18 @@ use Rattle.layout.specs.Block.{load, save}
 use Rattle.layout.specs.Good.{Good}
 use Rattle.layout.specs.Sgb.{Sgb, Game, Snes}
 use Rattle.layout.specs.Valid.{valid}
-use Rattle.layout.proofs.Goods.{valid-good, good-back}
+use Rattle.layout.proofs.Goods.{valid-good, good-valid, good-back}
 use Rattle.rules.specs.Carry.{withPads, plainly, carriedGame, carriedSnes, carried}
 use Rattle.rules.specs.Write.{advanced, meant, carries, stepped, written, answer}
 use Rattle.order.specs.Log.{Act, write, Outcome, afterWrite, run}
-use Rattle.order.specs.Blocks.{calls}
+use Rattle.order.specs.Blocks.{Called}
 use Rattle.order.proofs.BlockOrder.{saved, calls-saved, run-good}
 use Rattle.block_write.specs.Bytes.{handed, packetsTold}
 use Rattle.unit.specs.Calls.{packetsAnswered}
-use Rattle.unit.specs.Together.{Reply, Performed, performed, repliesOf, bufferAfter, performedBy}
+use Rattle.unit.specs.Together.{Reply, commandOf, Performed, performed, repliesOf, bufferAfter, performedBy}
 use Rattle.unit.specs.Trip.{ones, rises, risen, sentTo, returned}
 use Rattle.unit.proofs.Allowed.{Allowed, allowed-performed}
-use Rattle.unit.proofs.Together.{performed-calls}
+use Rattle.unit.proofs.Together.{performed-calls, replies-commands}
 
 -- ---- writes that complete nothing
 
@@ -258,13 +258,29 @@ module _ (b buffer c : List ℕ) (k : valid b ≡ true) (room : storeBytes ≤ l
       })
       n
 
+  -- the command that the caller holds after each: exactly one write answers, and it answers c
+  pub trip-commands : malformed c ≡ false → map commandOf (returned b buffer c .replies) ≡ map given (replicate (260 * packetsIn c - 2) none ++ (some c ∷ none ∷ []))
+  unfolding saved
+  trip-commands t =
+      let l : List Act = map write (pulsesOf (packetsIn c) c) in
+      ap (λ (o : Performed). map commandOf (o .replies)) (sym (calls-round-trip t))
+      ∙ replies-commands b buffer l k room
+      ∙ ap (λ (o : Called). map given (o .answers)) (calls-saved b k l)
+      ∙ ap (λ (o : Outcome). map given (o .answers)) (unit-round-trip (load b) c t bytes (valid-good b k .port .store) free)
+
   -- the block at the end is valid and holds that unit, whose port is at rest
+  sent-good : malformed c ≡ false → Good (sentTo (load b) c)
+  sent-good t =
+      subst (λ (o : Outcome). Good (o .last)) (unit-round-trip (load b) c t bytes (valid-good b k .port .store) free)
+      (run-good (load b) (valid-good b k) (map write (pulsesOf (packetsIn c) c)))
+
+  pub sent-valid : malformed c ≡ false → valid (returned b buffer c .block) ≡ true
+  unfolding returned
+  sent-valid t = good-valid (sentTo (load b) c) (sent-good t)
+
   pub sent-loads : malformed c ≡ false → load (returned b buffer c .block) ≡ sentTo (load b) c
   unfolding returned
-  sent-loads t =
-      good-back (sentTo (load b) c)
-      (subst (λ (o : Outcome). Good (o .last)) (unit-round-trip (load b) c t bytes (valid-good b k .port .store) free)
-      (run-good (load b) (valid-good b k) (map write (pulsesOf (packetsIn c) c))))
+  sent-loads t = good-back (sentTo (load b) c) (sent-good t)
 
   pub at-rest : malformed c ≡ false → load (returned b buffer c .block) .port ≡ resting
   unfolding sentTo carried

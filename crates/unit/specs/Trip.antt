@@ -14,7 +14,7 @@ use Rattle.commands.specs.Command.{decode}
 use Rattle.layout.specs.Block.{load, save}
 use Rattle.layout.specs.Sgb.{Sgb}
 use Rattle.rules.specs.Carry.{withPads, carried}
-use Rattle.unit.specs.Together.{Reply, Performed}
+use Rattle.unit.specs.Together.{Performed}
 
 -- ---- the joypad index
 
