@@ -57,7 +57,7 @@ pub fn verdict(command: &[u8]) -> Conformance
 }
 
 // The packets of a command, or 0 if it is malformed.
-pub fn packets_of(command: &[u8]) -> usize
+fn packets_of(command: &[u8]) -> usize
     ensures { λ r. ⌜ r ≡ commandPackets (now (command .entry)) ⌝ }
 {
     if command.len() == 0 {

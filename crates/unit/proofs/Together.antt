@@ -25,11 +25,12 @@ use Rattle.order.specs.Log as log
 use Rattle.order.specs.Blocks.{calledWrite, calledScreen, writtenBlock, seenBlock, calls}
 use Rattle.order.proofs.BlockOrder.{block-order}
 use Rattle.block_write.specs.Bytes.{handed, packetsTold}
+use Rattle.block_write.proofs.Handed.{length-handed}
 use Rattle.view.specs.Looks.{leaves}
 use Rattle.view.proofs.Refusals.{answers}
 use Rattle.unit.specs.Calls.{packetsAnswered, writeAnswer, writeBlock, writeCommand, screenAnswer, screenBlock}
 use Rattle.unit.specs.Together.{commandIn, commandOf, Performed, doneWrite, doneScreen, performed, repliesOf, bufferAfter, sightOf, performedBy}
-use Rattle.unit.proofs.Writes.{length-handed, answer-whole}
+use Rattle.unit.proofs.Writes.{answer-whole}
 
 -- ---- one call
 

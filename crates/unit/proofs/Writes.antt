@@ -19,7 +19,6 @@ use Rattle.block_write.proofs.Handed.{nothing-in, none-carried, Front, front}
 use Rattle.block_command.specs.Carrying.{carriedBlock}
 use Rattle.block_command.proofs.Chain.{carried-good}
 use Rattle.unit.specs.Calls.{packetsAnswered}
-pub use Rattle.block_write.proofs.Handed.{length-handed}
 
 pub answer-whole : (u : Sgb) (v : ℕ) → Good u → WholeIf (answer u v)
 unfolding answer
