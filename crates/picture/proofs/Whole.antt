@@ -23,7 +23,7 @@ use Rattle.border.specs.Tile.{tilePart, indexIn}
 use Rattle.border.specs.Border.{entryAt, draws, flipped, indexOf, inPalette, opaque, borderAt}
 use Rattle.border.proofs.Entries.{drawn-palette, index-lt}
 use Rattle.picture_lanes.specs.Lanes.{spreadOf}
-use Rattle.picture_runs.specs.Runs.{Tables, baseOf, within, screenFrom, runPixel, pixelIn}
+use Rattle.picture_runs.specs.Runs.{Source, Tables, baseOf, within, screenFrom, runPixel, pixelIn}
 use Rattle.picture.specs.Picture.{Parts, onScreen, below, pixelAt, rowOf, pictureOf}
 use Rattle.picture.specs.Tables.{borderColor, gameColor, TablesOf, pixelOn}
 
@@ -134,7 +134,11 @@ module _ (p : Parts) (spreads border game : List ℕ) (t : TablesOf p spreads bo
       go true e = screen-is x y e
       go false e = refl
 
-  pixel-is : (x y : ℕ) → pixelOn (p .tiles) (p .map) (p .attributes) (p .screen) border game y x ≡ pixelAt p x y
+  -- the picture's parts, and these tables
+  abbrev pub source : (tiles map attributes screen : List ℕ) → Source
+  source tiles map attributes screen = record { tiles = tiles; map = map; attributes = attributes; screen = screen; border = border; game = game }
+
+  pixel-is : (x y : ℕ) → pixelOn (source (p .tiles) (p .map) (p .attributes) (p .screen)) y x ≡ pixelAt p x y
   unfolding pixelOn pixelIn pixelAt borderAt indexOf seen
   pixel-is x y =
       let w : ℕ = entryAt (p .map) (x / 8) (y / 8) in
@@ -144,38 +148,38 @@ module _ (p : Parts) (spreads border game : List ℕ) (t : TablesOf p spreads bo
 
   -- from parts that are the picture's, each by itself
   module _ {tiles map attributes screen : List ℕ} (et : tiles ≡ p .tiles) (em : map ≡ p .map) (ea : attributes ≡ p .attributes) (es : screen ≡ p .screen) where
-    drawn : (x y : ℕ) → pixelOn tiles map attributes screen border game y x ≡ pixelAt p x y
-    drawn x y = (λ i. pixelOn (et i) (em i) (ea i) (es i) border game y x) ∙ pixel-is x y
+    drawn : (x y : ℕ) → pixelOn (source tiles map attributes screen) y x ≡ pixelAt p x y
+    drawn x y = (λ i. pixelOn (source (et i) (em i) (ea i) (es i)) y x) ∙ pixel-is x y
 
-    pub row-is : (y : ℕ) (o l : List ℕ) → Painted o l 0 256 (pixelOn tiles map attributes screen border game y) → 256 ≤ length l
+    pub row-is : (y : ℕ) (o l : List ℕ) → Painted o l 0 256 (pixelOn (source tiles map attributes screen) y) → 256 ≤ length l
         → o ≡ rowOf p y ++ drop 256 l
     unfolding rowOf
     row-is y o l q h = painted-tab (painted-same q (λ x. pixelAt p x y) (λ x lt. drawn x y)) h
 
-    pub picture-is : (o l : List ℕ) → Painted o l 0 57344 (λ k. pixelOn tiles map attributes screen border game (k / 256) (k % 256)) → 57344 ≤ length l
+    pub picture-is : (o l : List ℕ) → Painted o l 0 57344 (λ k. pixelOn (source tiles map attributes screen) (k / 256) (k % 256)) → 57344 ≤ length l
         → o ≡ pictureOf p ++ drop 57344 l
     unfolding pictureOf
     picture-is o l q h = painted-tab (painted-same q (λ k. pixelAt p (k % 256) (k / 256)) (λ k lt. drawn (k % 256) (k / 256))) h
 
 -- the next run of a row, the next row of the picture
-module _ (tiles map attributes screen border game : List ℕ) (y : ℕ) (l m o : List ℕ) where
+module _ (from : Source) (y : ℕ) (l m o : List ℕ) where
   pub row-turn : (c at start : ℕ) → start ≡ at + c * 8
-      → Painted m l at (c * 8) (pixelOn tiles map attributes screen border game y) → Painted o m start 8 (pixelIn tiles map attributes screen border game c y)
-      → Painted o l at ((c + 1) * 8) (pixelOn tiles map attributes screen border game y)
+      → Painted m l at (c * 8) (pixelOn from y) → Painted o m start 8 (pixelIn from c y)
+      → Painted o l at ((c + 1) * 8) (pixelOn from y)
   unfolding pixelOn
   row-turn c at start e p q =
       painted-count
       (painted-run p q e
-      (λ i h. let a : c ≡ (c * 8 + i) / 8 = omega arith in let b : i ≡ (c * 8 + i) % 8 = omega arith in λ t. pixelIn tiles map attributes screen border game (a t) y (b t)))
+      (λ i h. let a : c ≡ (c * 8 + i) / 8 = omega arith in let b : i ≡ (c * 8 + i) % 8 = omega arith in λ t. pixelIn from (a t) y (b t)))
       ((c + 1) * 8)
       (omega arith)
 
-  pub rows-turn : Painted m l 0 (y * 256) (λ k. pixelOn tiles map attributes screen border game (k / 256) (k % 256))
-      → Painted o m (y * 256) 256 (pixelOn tiles map attributes screen border game y)
-      → Painted o l 0 ((y + 1) * 256) (λ k. pixelOn tiles map attributes screen border game (k / 256) (k % 256))
+  pub rows-turn : Painted m l 0 (y * 256) (λ k. pixelOn from (k / 256) (k % 256))
+      → Painted o m (y * 256) 256 (pixelOn from y)
+      → Painted o l 0 ((y + 1) * 256) (λ k. pixelOn from (k / 256) (k % 256))
   rows-turn p q =
       painted-count
       (painted-run p q (omega arith)
-      (λ i h. let a : y ≡ (y * 256 + i) / 256 = omega arith in let b : i ≡ (y * 256 + i) % 256 = omega arith in ap₂ (pixelOn tiles map attributes screen border game) a b))
+      (λ i h. let a : y ≡ (y * 256 + i) / 256 = omega arith in let b : i ≡ (y * 256 + i) % 256 = omega arith in ap₂ (pixelOn from) a b))
       ((y + 1) * 256)
       (omega arith)

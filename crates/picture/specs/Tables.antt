@@ -9,7 +9,7 @@ use Rattle.bits.specs.Word.{wordAt}
 use Rattle.bits.specs.Tab.{tab}
 use Rattle.screen.specs.Colours.{backdropOf, maskedOf}
 use Rattle.picture_lanes.specs.Lanes.{spreadOf}
-use Rattle.picture_runs.specs.Runs.{pixelIn}
+use Rattle.picture_runs.specs.Runs.{Source, pixelIn}
 use Rattle.picture.specs.Picture.{Parts}
 
 -- the border's 48 colours, with the backdrop where a border pixel is transparent
@@ -27,5 +27,5 @@ pub record TablesOf (p : Parts) (spreads border game : List ℕ) : Type 0 where
   pub game-is : game ≡ tab 16 (gameColor (p .palettes) (p .preset) (p .inForce) (p .mode))
 
 -- the pixel at column x of row y, drawn from the tables: pixel x % 8 of the run x / 8
-unfoldable pub pixelOn : List ℕ → List ℕ → List ℕ → List ℕ → List ℕ → List ℕ → ℕ → ℕ → ℕ
-pixelOn tiles map attributes screen border game y x = pixelIn tiles map attributes screen border game (x / 8) y (x % 8)
+unfoldable pub pixelOn : Source → ℕ → ℕ → ℕ
+pixelOn from y x = pixelIn from (x / 8) y (x % 8)

@@ -49,7 +49,7 @@ pub fn picture(
     requires { ⌜ Lent (now tiles) (now map) (now attributes) (now screen) ⌝ }
     requires { ⌜ Tables (now spreads) (now border) (now game) ⌝ }
     requires { ⌜ 57344 ≤ length (now out) ⌝ }
-    ensures { λ _. ⌜ Painted (now (out .exit)) (now (out .entry)) 0 57344 (λ k. pixelOn (now (tiles .entry)) (now (map .entry)) (now (attributes .entry)) (now (screen .entry)) (now (border .entry)) (now (game .entry)) (k / 256) (k % 256)) ⌝ }
+    ensures { λ _. ⌜ Painted (now (out .exit)) (now (out .entry)) 0 57344 (λ k. pixelOn (record { tiles = now (tiles .entry); map = now (map .entry); attributes = now (attributes .entry); screen = now (screen .entry); border = now (border .entry); game = now (game .entry) }) (k / 256) (k % 256)) ⌝ }
 {
     let mut y = 0;
     while y < 224 {
@@ -85,7 +85,7 @@ pub fn row(
     requires { ⌜ Lent (now tiles) (now map) (now attributes) (now screen) ⌝ }
     requires { ⌜ Tables (now spreads) (now border) (now game) ⌝ }
     requires { ⌜ (at + 256 ≤ length (now out)) × (y < 224) ⌝ }
-    ensures { λ _. ⌜ Painted (now (out .exit)) (now (out .entry)) at 256 (pixelOn (now (tiles .entry)) (now (map .entry)) (now (attributes .entry)) (now (screen .entry)) (now (border .entry)) (now (game .entry)) y) ⌝ }
+    ensures { λ _. ⌜ Painted (now (out .exit)) (now (out .entry)) at 256 (pixelOn (record { tiles = now (tiles .entry); map = now (map .entry); attributes = now (attributes .entry); screen = now (screen .entry); border = now (border .entry); game = now (game .entry) }) y) ⌝ }
 {
     let mut c = 0;
     while c < 32 {

@@ -28,6 +28,15 @@ pub record Tables (spreads border game : List ℕ) : Type 0 where
   pub second : getD border 16 0 ≡ getD border 0 0
   pub third : getD border 32 0 ≡ getD border 0 0
 
+-- what a run is drawn from: the lent parts, and the two tables of colours
+pub record Source : Type 0 where
+  pub tiles : List ℕ
+  pub map : List ℕ
+  pub attributes : List ℕ
+  pub screen : List ℕ
+  pub border : List ℕ
+  pub game : List ℕ
+
 -- where the palette of a word that draws starts among the border's colours
 unfoldable pub baseOf : ℕ → ℕ
 baseOf w = cond (draws w) ((paletteOf w - 4) * 16) 0
@@ -53,7 +62,7 @@ abbrev pub runPixel : ℕ → List ℕ → ℕ → ℕ → ℕ
 runPixel i border base below = cond (eqb i 0) below (getD border (base + i) 0)
 
 -- pixel j of the run at border column c of row y
-unfoldable pub pixelIn : List ℕ → List ℕ → List ℕ → List ℕ → List ℕ → List ℕ → ℕ → ℕ → ℕ → ℕ
-pixelIn tiles map attributes screen border game c y j =
-    runPixel (indexOf tiles (entryAt map c (y / 8)) j (y % 8)) border (baseOf (entryAt map c (y / 8)))
-    (cond (within c y) (getD game (cellAt attributes (c - 6) ((y - 40) / 8) * 4 + pairAt screen (screenFrom c y + j)) 0) (getD border 0 0))
+unfoldable pub pixelIn : Source → ℕ → ℕ → ℕ → ℕ
+pixelIn from c y j =
+    runPixel (indexOf (from .tiles) (entryAt (from .map) c (y / 8)) j (y % 8)) (from .border) (baseOf (entryAt (from .map) c (y / 8)))
+    (cond (within c y) (getD (from .game) (cellAt (from .attributes) (c - 6) ((y - 40) / 8) * 4 + pairAt (from .screen) (screenFrom c y + j)) 0) (getD (from .border) 0 0))

@@ -30,7 +30,7 @@ pub fn run(
     requires { ⌜ Lent (now tiles) (now map) (now attributes) (now screen) ⌝ }
     requires { ⌜ Tables (now spreads) (now border) (now game) ⌝ }
     requires { ⌜ (at + 8 ≤ length (now out)) × (c < 32) × (y < 224) ⌝ }
-    ensures { λ _. ⌜ Painted (now (out .exit)) (now (out .entry)) at 8 (pixelIn (now (tiles .entry)) (now (map .entry)) (now (attributes .entry)) (now (screen .entry)) (now (border .entry)) (now (game .entry)) c y) ⌝ }
+    ensures { λ _. ⌜ Painted (now (out .exit)) (now (out .entry)) at 8 (pixelIn (record { tiles = now (tiles .entry); map = now (map .entry); attributes = now (attributes .entry); screen = now (screen .entry); border = now (border .entry); game = now (game .entry) }) c y) ⌝ }
 {
     let entry = border::map_entry(map, c, y / 8);
     let l = picture_lanes::indices(tiles, spreads, entry, y % 8);

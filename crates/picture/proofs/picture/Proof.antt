@@ -11,7 +11,7 @@ use Rattle.picture.proofs.picture.Statement.{statement}
 use Rattle.picture.proofs.picture.Tie as tie
 
 abbrev Inv-loop : tie.InvT-loop
-Inv-loop out₀ tiles map attributes screen spreads border game y₀ out y = (y ≤ 224) × (length out ≡ length out₀) × Painted out out₀ 0 (y * 256) (λ k. pixelOn tiles map attributes screen border game (k / 256) (k % 256))
+Inv-loop out₀ tiles map attributes screen spreads border game y₀ out y = (y ≤ 224) × (length out ≡ length out₀) × Painted out out₀ 0 (y * 256) (λ k. pixelOn (record { tiles = tiles; map = map; attributes = attributes; screen = screen; border = border; game = game }) (k / 256) (k % 256))
 
 abbrev μ-loop : tie.MeasureT-loop
 μ-loop out₀ tiles map attributes screen spreads border game y₀ out y = 224 - y
@@ -35,7 +35,7 @@ loop-again : tie.Need-loop-again Inv-loop μ-loop
 loop-again c =
     let l = c .before .before .before .before .before .loop in
     let a = c .before .before .before .before .before .before .before .before .before .before .before .before .before .before .args in
-    let p = rows-turn (a .tiles .now) (a .map .now) (a .attributes .now) (a .screen .now) (a .border .now) (a .game .now) _ _ _ _ (l .inv .2) (c .before .before .row .ensures) in
+    let p = rows-turn (record { tiles = a .tiles .now; map = a .map .now; attributes = a .attributes .now; screen = a .screen .now; border = a .border .now; game = a .game .now }) _ _ _ _ (l .inv .2) (c .before .before .row .ensures) in
     (omega arith, painted-length p, p)
 
 same-length : tie.Need-same-length Inv-loop μ-loop

@@ -11,7 +11,7 @@ use Rattle.picture.proofs.row.Statement.{statement}
 use Rattle.picture.proofs.row.Tie as tie
 
 abbrev Inv-loop : tie.InvT-loop
-Inv-loop out₀ at tiles map attributes screen spreads border game y c₀ out c = (c ≤ 32) × (length out ≡ length out₀) × Painted out out₀ at (c * 8) (pixelOn tiles map attributes screen border game y)
+Inv-loop out₀ at tiles map attributes screen spreads border game y c₀ out c = (c ≤ 32) × (length out ≡ length out₀) × Painted out out₀ at (c * 8) (pixelOn (record { tiles = tiles; map = map; attributes = attributes; screen = screen; border = border; game = game }) y)
 
 abbrev μ-loop : tie.MeasureT-loop
 μ-loop out₀ at tiles map attributes screen spreads border game y c₀ out c = 32 - c
@@ -38,7 +38,7 @@ loop-again : tie.Need-loop-again Inv-loop μ-loop
 loop-again c =
     let l = c .before .before .before .before .before .loop in
     let a = c .before .before .before .before .before .before .before .before .before .before .before .before .before .before .args in
-    let p = row-turn (a .tiles .now) (a .map .now) (a .attributes .now) (a .screen .now) (a .border .now) (a .game .now) (a .y) _ _ _ (l .c) (a .at) _ refl (l .inv .2) (c .before .before .run .ensures) in
+    let p = row-turn (record { tiles = a .tiles .now; map = a .map .now; attributes = a .attributes .now; screen = a .screen .now; border = a .border .now; game = a .game .now }) (a .y) _ _ _ (l .c) (a .at) _ refl (l .inv .2) (c .before .before .run .ensures) in
     (omega arith, painted-length p, p)
 
 same-length : tie.Need-same-length Inv-loop μ-loop

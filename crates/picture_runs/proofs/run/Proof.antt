@@ -36,7 +36,7 @@ same-length c = search needs
 returns : tie.Need-returns
 returns c =
     let a = c .before .before .before .before .before .before .before .before .before .before .before .before .before .before .before .before .before .before .before .before .args in
-    game-run (a .tiles .now) (a .map .now) (a .attributes .now) (a .screen .now) (a .border .now) (a .game .now) (a .c) (a .y) _ _ _ _
+    game-run (record { tiles = a .tiles .now; map = a .map .now; attributes = a .attributes .now; screen = a .screen .now; border = a .border .now; game = a .game .now }) (a .c) (a .y) _ _ _ _
     (c .before .before .before .before .before .before .before .before .before .before .before .map-entry .ensures) (c .before .before .before .before .before .before .before .before .before .before .indices .ensures) (c .before .before .before .before .before .before .before .before .before .base .ensures .0)
     _ _ _ _ (sym (c .before .before .before .before .before .before .before .before .within-screen .ensures) ∙ c .before .before .before .before .before .before .before .if1 .taken) (c .before .before .before .before .before .before .shades .ensures) (c .before .before .before .before .before .cell .ensures .0) (c .before .before .before .before .if2 .taken) (c .before .before .run-game .ensures)
 
@@ -49,7 +49,7 @@ same-length-2 c = search needs
 returns-2 : tie.Need-returns-2
 returns-2 c =
     let a = c .before .before .before .before .before .before .before .before .before .before .before .before .before .before .before .before .before .before .before .before .args in
-    both-run (a .tiles .now) (a .map .now) (a .attributes .now) (a .screen .now) (a .border .now) (a .game .now) (a .c) (a .y) _ _ _ _
+    both-run (record { tiles = a .tiles .now; map = a .map .now; attributes = a .attributes .now; screen = a .screen .now; border = a .border .now; game = a .game .now }) (a .c) (a .y) _ _ _ _
     (c .before .before .before .before .before .before .before .before .before .before .before .map-entry .ensures) (c .before .before .before .before .before .before .before .before .before .before .indices .ensures) (c .before .before .before .before .before .before .before .before .before .base .ensures .0)
     _ _ _ _ (sym (c .before .before .before .before .before .before .before .before .within-screen .ensures) ∙ c .before .before .before .before .before .before .before .if1 .taken) (c .before .before .before .before .before .before .shades .ensures) (c .before .before .before .before .before .cell .ensures .0) (c .before .before .run-both .ensures)
 
@@ -65,7 +65,7 @@ same-length-3 c = search needs
 returns-3 : tie.Need-returns-3
 returns-3 c =
     let a = c .before .before .before .before .before .before .before .before .before .before .before .before .before .before .before .before .before .before .before .args in
-    plain-run (a .tiles .now) (a .map .now) (a .attributes .now) (a .screen .now) (a .border .now) (a .game .now) (a .c) (a .y) _ _ _ _
+    plain-run (record { tiles = a .tiles .now; map = a .map .now; attributes = a .attributes .now; screen = a .screen .now; border = a .border .now; game = a .game .now }) (a .c) (a .y) _ _ _ _
     (c .before .before .before .before .before .before .before .before .before .before .map-entry .ensures) (c .before .before .before .before .before .before .before .before .before .indices .ensures) (c .before .before .before .before .before .before .before .before .base .ensures .0)
     _ _ _ (c .before .before .before .color-in .ensures) (sym (c .before .before .before .before .before .before .before .within-screen .ensures) ∙ c .before .before .before .before .before .before .if1 .left) (c .before .before .before .before .before .if3 .taken) (c .before .before .run-plain .ensures)
 
@@ -80,7 +80,7 @@ returns-4 c =
     let a = c .before .before .before .before .before .before .before .before .before .before .before .before .before .before .before .before .before .before .args in
     let t = c .before .before .before .before .before .before .before .before .before .before .before .before .before .before .before .before .before .before .pre .1 .0 in
     let e = c .before .before .before .before .before .before .before .base .ensures .0 in
-    border-run (a .tiles .now) (a .map .now) (a .attributes .now) (a .screen .now) (a .border .now) (a .game .now) (a .c) (a .y) _ _ _ _
+    border-run (record { tiles = a .tiles .now; map = a .map .now; attributes = a .attributes .now; screen = a .screen .now; border = a .border .now; game = a .game .now }) (a .c) (a .y) _ _ _ _
     (c .before .before .before .before .before .before .before .before .before .map-entry .ensures) (c .before .before .before .before .before .before .before .before .indices .ensures) e
     _ _ (sym (c .before .before .before .before .before .before .within-screen .ensures) ∙ c .before .before .before .before .before .if1 .left) (base-first (a .border .now) _ _ e (t .second) (t .third)) (c .before .before .run-border .ensures)
 
