@@ -1,5 +1,5 @@
--- A log run by the public calls, one after another on one block with one command buffer: what each answers, and what it leaves of what it
--- was lent. The block between two calls is left out: it is the last one's alone that may not depend on how writes and screens are merged.
+-- A log run by the public calls, one after another on one block with one command buffer: what each answers, the buffer after each write, and
+-- the block at the end. The block between two calls is not told: it differs where writes and screens are merged differently.
 use Prim.Native.Nat.{ℕ, _*_}
 use mathlib.Core.List.{List, [], _∷_, map}
 use mathlib.Core.Option.{Option, none, some}
@@ -17,7 +17,7 @@ pub record Reply : Type 0 where
   pub answer : Answer (Option ℕ)
   pub buffer : List ℕ
 
--- "answer its 16 to 112 bytes": the command that the caller then holds, so many packets at the buffer's front
+-- the command that the caller then holds, its 16 to 112 bytes: so many packets at the buffer's front
 unfoldable pub commandIn : Answer (Option ℕ) → List ℕ → Answer (Option (List ℕ))
 commandIn (refused n) buffer = refused n
 commandIn (given none) buffer = given none

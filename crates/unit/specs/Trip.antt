@@ -1,6 +1,6 @@
--- A command sent to a unit by the public calls, pulse by pulse: what each write answers, and what the command makes of the block. Document 01,
--- What the proofs owe a reader: a command turned into pulses comes back unchanged, "with no earlier packet held" (`NoneHeld` of the crate
--- `pulses`). The theorem is `calls-round-trip` of proofs/Trip.
+-- A command sent to a unit by the public calls, pulse by pulse, to a block that holds no earlier packet (`NoneHeld` of the crate `pulses`): what
+-- each write answers, and what the command makes of the block. Document 01, What the proofs owe a reader; demand 2. The theorem is
+-- `calls-round-trip` of proofs/Trip.
 use Prim.Native.Nat.{ℕ, zero, suc, _+_, _-_, _*_}
 use mathlib.Core.List.{List, [], _∷_, _++_}
 use mathlib.Core.Option.{none, some}
@@ -27,7 +27,7 @@ ones (suc b ∷ bs) = suc (ones bs)
 unfoldable pub rises : List ℕ → ℕ
 rises c = packetsIn c + ones (bitsIn c)
 
--- the index after n rises: "if P15 goes low to high, index = (index + 1) AND mask"
+-- the index after n rises, each as in a write (`indexed` of the crate `receiver`)
 unfoldable pub risen : ℕ → ℕ → ℕ → ℕ
 risen zero mask index = index
 risen (suc n) mask index = risen n mask (bitAnd (index + 1) mask)
