@@ -36,7 +36,7 @@ use Rattle.order.proofs.BlockOrder.{saved, calls-saved, run-good}
 use Rattle.block_write.specs.Bytes.{handed, packetsTold}
 use Rattle.unit.specs.Calls.{packetsAnswered}
 use Rattle.unit.specs.Together.{Reply, commandOf, Performed, performed, repliesOf, bufferAfter, performedBy}
-use Rattle.unit.specs.Trip.{ones, rises, risen, sentTo, returned}
+use Rattle.unit.specs.Trip.{ones, risesIn, risen, sentTo, returned}
 use Rattle.unit.proofs.Allowed.{Allowed, allowed-performed}
 use Rattle.unit.proofs.Together.{performed-calls, replies-commands}
 
@@ -209,7 +209,7 @@ module _ (u : Sgb) (c : List ℕ) where
   pub unit-round-trip : malformed c ≡ false → Bytes c → length (u .port .store) ≡ storeBytes → NoneHeld (u .port .rx)
       → run u (map write (pulsesOf (packetsIn c) c))
       ≡ record { last = sentTo u c; answers = replicate (260 * packetsIn c - 2) none ++ (some c ∷ none ∷ []); sights = [] }
-  unfolding sentTo rises sentBy raised
+  unfolding sentTo risesIn sentBy raised
   unit-round-trip t h m f = let w = formed c t in go (packetsIn c) refl (w .some) (w .few) (w .whole)
     where
       go : (n : ℕ) → packetsIn c ≡ n → 0 < n → n ≤ 7 → length c ≡ 16 * n → run u (map write (pulsesOf n c)) ≡ sentBy n

@@ -24,8 +24,8 @@ ones (zero ∷ bs) = ones bs
 ones (suc b ∷ bs) = suc (ones bs)
 
 -- how often a command's pulses raise P15: it is low at a packet's start and at a bit that is one, and high again at the release of each
-unfoldable pub rises : List ℕ → ℕ
-rises c = packetsIn c + ones (bitsIn c)
+unfoldable pub risesIn : List ℕ → ℕ
+risesIn c = packetsIn c + ones (bitsIn c)
 
 -- the index after n rises, each as in a write (`indexed` of the crate `receiver`)
 unfoldable pub risen : ℕ → ℕ → ℕ → ℕ
@@ -38,7 +38,7 @@ risen (suc n) mask index = risen n mask (bitAnd (index + 1) mask)
 unfoldable pub sentTo : Sgb → List ℕ → Sgb
 sentTo u c =
     carried (decode c)
-    (record { port = resting; game = withPads (risen (rises c) (u .game .pads) (u .game .index)) (u .game .pads) (u .game); snes = u .snes })
+    (record { port = resting; game = withPads (risen (risesIn c) (u .game .pads) (u .game .index)) (u .game .pads) (u .game); snes = u .snes })
 
 -- ---- the calls
 
