@@ -88,7 +88,7 @@ Ends (completed c ∷ es) k = Ends es k
 Ends (refusal j ∷ []) k = j ≡ k
 Ends (refusal j ∷ (e ∷ es)) k = ⊥
 
-refused-first : (es more : List Event) (k : ℕ) (p : List ℕ) → Ends es k → refusedOr (es ++ more) p ≡ refusalText k
+pub refused-first : (es more : List Event) (k : ℕ) (p : List ℕ) → Ends es k → refusedOr (es ++ more) p ≡ refusalText k
 unfolding Ends refusedOr
 refused-first [] more k p h = absurd h
 refused-first (completed c ∷ es) more k p h = refused-first es more k p h
