@@ -1,1 +1,5 @@
+pub mod Printing
 pub mod Feeding
+pub mod Ending
+pub mod Outcomes
+pub mod Programs

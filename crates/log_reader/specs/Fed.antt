@@ -19,6 +19,10 @@ outBytes = 1280
 abbrev pub mostLines : ℕ
 mostLines = 9223372036854775808
 
+-- as many as all turns of `read_log` can bring
+abbrev pub mostBytes : ℕ
+mostBytes = 1152921504606846976
+
 -- the buffers as they are lent at first
 pub record Sized (d : Desk) : Type 0 where
   pub block-long : length (d .block) ≡ blockBytes

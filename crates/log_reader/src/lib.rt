@@ -1,54 +1,58 @@
 // Reading a log from standard input, chunk by chunk, and writing what it tells. Both programs stand on it: `replay` writes the text of
-// each fill, `plate` is quiet up to its end. What is written stands in the contracts of `log`; here are the calls of the C library.
+// each fill, `plate` is quiet up to its end. What is told stands in the contracts of `log`, what is written in the lent tally of
+// `log_writer`; here are the calls of `read`.
+ghost use mathlib.Core.Bool.{false};
+ghost use mathlib.Core.List.{List, []};
 ghost use mathlib.Core.Path.{_≡_};
-ghost use Prim.Native.Nat.{_+_, _≤_};
-ghost use lib.ListN.{length};
+ghost use Prim.Native.Nat.{ℕ, _+_, _≤_};
+ghost use lib.ListN.{length, take};
 ghost use Rattle.layout.specs.Valid.{Valid};
 ghost use Rattle.log.specs.Steps.{Fit, desk};
-ghost use Rattle.log_reader.specs.Fed.{Sized, Kept, chunkBytes, outBytes, mostLines};
+ghost use Rattle.log_reader.specs.Fed.{Sized, Kept, chunkBytes, outBytes, mostLines, mostBytes};
+ghost use Rattle.log_reader.specs.Read.{point, isWell, goesOn, ToldAs, Outcome, Turned, Reached};
 use libc::STDERR_FILENO;
 use libc::STDIN_FILENO;
-use libc::STDOUT_FILENO;
 use log::Reading;
+use log_writer::write_out;
 
 // The bytes of a read, and of the text between two writes. Small, since they stand on the stack.
 pub const CHUNK_BYTES: usize = 1024;
 
 pub const OUT_BYTES: usize = 1280;
 
-// More may come; the input has ended and all is told; a read or a write failed, which has been said; a quiet reading came to a refused
-// line, the one before the reading's next.
+// All that came is told; a read or a write failed, which has been said; a quiet reading came to a refused line, the one before the
+// reading's next.
 pub enum State {
-    More,
-    Ended,
+    Well,
     Failed,
     Refused,
 }
 
+// After a chunk.
 pub struct Fed {
     pub reading: Reading,
     pub state: State,
 }
 
-// Writes all of a text, or says that it could not. By its own loop: `io::write_all` holds 4,096 bytes for a write that comes short, which
-// would stand on the stack beneath the program's buffers.
-pub fn write_out(text: &[u8]) -> bool {
-    let mut done: usize = 0;
-    while done < text.len() {
-        let rest = &text[done..];
-        let n = io::count(libc::write(STDOUT_FILENO, rest), rest);
-        if n == 0 {
-            os::fail(b"write");
-            return false;
-        }
-        done += n;
-    }
-    true
+// After reads: how many bytes came, and whether the input has ended.
+pub struct Read {
+    pub reading: Reading,
+    pub state: State,
+    pub got: u64,
+    pub ended: bool,
+}
+
+// What a program printed: how many bytes of the input came, whether that was all of it, and whether all that is due was written.
+pub struct Print {
+    pub got: u64,
+    pub ended: bool,
+    pub whole: bool,
 }
 
 // All of a log, from a fresh unit on. A proved loop has to end, and nothing says that an input does: the turns are more than a machine
 // makes in thirty years.
 pub fn read_log(
+    tally: &mut u64,
     block: &mut [u8],
     line: &mut [u8],
     bytes: &mut [u8],
@@ -56,34 +60,43 @@ pub fn read_log(
     out: &mut [u8],
     chunk: &mut [u8],
     quiet: bool,
-) -> Fed
+) -> Read
     requires { ⌜ Sized (desk (now block) (now line) (now bytes) (now command)) ⌝ }
     requires { ⌜ (length (now out) ≡ outBytes) × (length (now chunk) ≡ chunkBytes) ⌝ }
     ensures { λ r. ⌜ Valid (now (block .exit)) × (1 ≤ r .reading .number) ⌝ }
+    ensures { λ r. ⌜ ((input : List ℕ) × ((length input ≡ r .got) × Reached (r .state) (r .ended) quiet input (r .reading) (now (block .exit)) (now (tally .entry)) (now (tally .exit)))) ⌝ }
 {
     block_fresh::post_boot(block);
-    let mut reading = log::begin();
+    let mut read = Read {
+        reading: log::begin(),
+        state: State::Well,
+        got: 0,
+        ended: false,
+    };
     let mut turns: u64 = 1125899906842624;
     while turns > 0 {
         turns -= 1;
-        let f = turn(reading, block, line, bytes, command, out, chunk, quiet);
-        let next = f.reading;
-        reading = next;
-        if !goes_on(f) {
-            return f;
+        let next = turn(read, tally, block, line, bytes, command, out, chunk, quiet);
+        if !goes_on(next) {
+            return next;
         }
+        read = next;
     }
-    // by the bare call, as for `write_out`
+    // by the bare call: `io::write_all` holds 4,096 bytes
     libc::write(STDERR_FILENO, b"the input does not end\n");
-    Fed {
+    let reading = read.reading;
+    Read {
         reading: reading,
         state: State::Failed,
+        got: read.got,
+        ended: false,
     }
 }
 
 // Reads once, and feeds what came.
 fn turn(
-    reading: Reading,
+    start: Read,
+    tally: &mut u64,
     block: &mut [u8],
     line: &mut [u8],
     bytes: &mut [u8],
@@ -91,26 +104,30 @@ fn turn(
     out: &mut [u8],
     chunk: &mut [u8],
     quiet: bool,
-) -> Fed
-    requires { ⌜ Fit reading (desk (now block) (now line) (now bytes) (now command)) ⌝ }
-    requires { ⌜ reading .number ≤ mostLines ⌝ }
+) -> Read
+    requires { ⌜ Fit (start .reading) (desk (now block) (now line) (now bytes) (now command)) ⌝ }
+    requires { ⌜ (start .reading .number ≤ mostLines) × (start .got ≤ mostBytes) ⌝ }
     requires { ⌜ (length (now out) ≡ outBytes) × (length (now chunk) ≡ chunkBytes) ⌝ }
-    ensures { λ r. ⌜ Kept reading chunkBytes r (desk (now (block .exit)) (now (line .exit)) (now (bytes .exit)) (now (command .exit))) ⌝ }
+    ensures { λ r. ⌜ ((n : ℕ) × Turned quiet start (point (start .reading) (desk (now (block .entry)) (now (line .entry)) (now (bytes .entry)) (now (command .entry))) (now (tally .entry))) (take n (now (chunk .exit))) r (point (r .reading) (desk (now (block .exit)) (now (line .exit)) (now (bytes .exit)) (now (command .exit))) (now (tally .exit)))) ⌝ }
 {
     let got = libc::read(STDIN_FILENO, chunk);
+    let reading = start.reading;
     if got < 0 {
         os::fail(b"read");
-        return Fed {
+        return Read {
             reading: reading,
             state: State::Failed,
+            got: start.got,
+            ended: false,
         };
     }
     let n = io::count(got, chunk);
     if n == 0 {
-        return finish(reading, block, line, bytes, command, out, quiet);
+        return finish(start, tally, block, line, bytes, command, out, quiet);
     }
-    feed(
+    let f = feed(
         reading,
+        tally,
         block,
         line,
         bytes,
@@ -118,37 +135,61 @@ fn turn(
         out,
         &chunk[..n],
         quiet,
-    )
+    );
+    let next = f.reading;
+    let state = f.state;
+    Read {
+        reading: next,
+        state: state,
+        got: start.got + n as u64,
+        ended: false,
+    }
 }
 
 // The input has ended: a last line that lacks its LF gets it.
 fn finish(
-    reading: Reading,
+    start: Read,
+    tally: &mut u64,
     block: &mut [u8],
     line: &mut [u8],
     bytes: &mut [u8],
     command: &mut [u8],
     out: &mut [u8],
     quiet: bool,
-) -> Fed
-    requires { ⌜ Fit reading (desk (now block) (now line) (now bytes) (now command)) ⌝ }
-    requires { ⌜ reading .number ≤ mostLines ⌝ }
+) -> Read
+    requires { ⌜ Fit (start .reading) (desk (now block) (now line) (now bytes) (now command)) ⌝ }
+    requires { ⌜ start .reading .number ≤ mostLines ⌝ }
     requires { ⌜ length (now out) ≡ outBytes ⌝ }
-    ensures { λ r. ⌜ Kept reading 1 r (desk (now (block .exit)) (now (line .exit)) (now (bytes .exit)) (now (command .exit))) ⌝ }
+    ensures { λ r. ⌜ Turned quiet start (point (start .reading) (desk (now (block .entry)) (now (line .entry)) (now (bytes .entry)) (now (command .entry))) (now (tally .entry))) [] r (point (r .reading) (desk (now (block .exit)) (now (line .exit)) (now (bytes .exit)) (now (command .exit))) (now (tally .exit))) ⌝ }
 {
+    let reading = start.reading;
     let lf = [10u8; 1];
     let k = log::last_lf(reading);
-    let f = feed(reading, block, line, bytes, command, out, &lf[0..k], quiet);
+    let f = feed(
+        reading,
+        tally,
+        block,
+        line,
+        bytes,
+        command,
+        out,
+        &lf[0..k],
+        quiet,
+    );
     let next = f.reading;
-    Fed {
+    let state = f.state;
+    Read {
         reading: next,
-        state: ended(f),
+        state: state,
+        got: start.got,
+        ended: true,
     }
 }
 
 // What a chunk of the input gives.
 fn feed(
     start: Reading,
+    tally: &mut u64,
     block: &mut [u8],
     line: &mut [u8],
     bytes: &mut [u8],
@@ -161,6 +202,7 @@ fn feed(
     requires { ⌜ (start .number ≤ mostLines) × (length (now chunk) ≤ chunkBytes) ⌝ }
     requires { ⌜ length (now out) ≡ outBytes ⌝ }
     ensures { λ r. ⌜ Kept start (length (now (chunk .entry))) r (desk (now (block .exit)) (now (line .exit)) (now (bytes .exit)) (now (command .exit))) ⌝ }
+    ensures { λ r. ⌜ Outcome (r .state) false quiet (point start (desk (now (block .entry)) (now (line .entry)) (now (bytes .entry)) (now (command .entry))) (now (tally .entry))) (now (chunk .entry)) (point (r .reading) (desk (now (block .exit)) (now (line .exit)) (now (bytes .exit)) (now (command .exit))) (now (tally .exit))) ⌝ }
 {
     let mut reading = start;
     let mut at = 0;
@@ -170,53 +212,66 @@ fn feed(
         at = f.at;
         let next = f.reading;
         reading = next;
-        let state = told(&out[0..size], f.refused, quiet);
+        let state = told(tally, &out[0..size], f.refused, quiet);
         let here = Fed {
             reading: next,
             state: state,
         };
-        if !goes_on(here) {
+        if !is_well(here) {
             return here;
         }
     }
     Fed {
         reading: reading,
-        state: State::More,
+        state: State::Well,
     }
 }
 
-// How it goes on behind a fill: for a quiet reading up to a refused line, for the other one while its text can be written.
-fn told(text: &[u8], refused: bool, quiet: bool) -> State {
+// How it stands behind a fill: a quiet reading goes on up to a refused line, the other one while its text can be written.
+fn told(tally: &mut u64, text: &[u8], refused: bool, quiet: bool) -> State
+    ensures { λ r. ⌜ ToldAs quiet refused (now (tally .entry)) (now (text .entry)) r (now (tally .exit)) ⌝ }
+{
     if quiet {
         if refused {
             return State::Refused;
         }
-        return State::More;
+        return State::Well;
     }
-    if write_out(text) {
-        State::More
+    if write_out(tally, text) {
+        State::Well
     } else {
         State::Failed
     }
 }
 
-fn goes_on(fed: Fed) -> bool {
+fn is_well(fed: Fed) -> bool
+    ensures { λ r. ⌜ r ≡ isWell (fed .state) ⌝ }
+{
     let state = fed.state;
     match state {
-        State::More => true,
-        State::Ended => false,
+        State::Well => true,
         State::Failed => false,
         State::Refused => false,
     }
 }
 
-// The state where nothing more comes.
-fn ended(fed: Fed) -> State {
-    let state = fed.state;
+fn goes_on(read: Read) -> bool
+    ensures { λ r. ⌜ r ≡ goesOn (read .state) (read .ended) ⌝ }
+{
+    if read.ended {
+        return false;
+    }
+    is_told(read)
+}
+
+// Whether all that came is told.
+pub fn is_told(read: Read) -> bool
+    ensures { λ r. ⌜ r ≡ isWell (read .state) ⌝ }
+{
+    let state = read.state;
     match state {
-        State::More => State::Ended,
-        State::Ended => State::Ended,
-        State::Failed => State::Failed,
-        State::Refused => State::Refused,
+        State::Well => true,
+        State::Failed => false,
+        State::Refused => false,
     }
 }

@@ -1,9 +1,14 @@
--- One LF at most.
+-- One LF at most, which leaves nothing held.
 use borrow.Author.Needs.{needs}
-use Prim.Native.Nat.{_-_}
+use denote.Ref.{now}
+use mathlib.Core.List.{List}
+use mathlib.Core.Path.{ap}
+use Prim.Native.Nat.{ℕ}
 use native.Mathlib.Omega.{arith}
-use lib.ListN.{length-take}
-use Rattle.log_reader.proofs.Feeding.{last-short, kept-more}
+use lib.ListN.{length, length-take}
+use Rattle.log.specs.Steps.{desk}
+use Rattle.log_reader.specs.Read.{point}
+use Rattle.log_reader.proofs.Ending.{last-part, last-short, outcome-ends}
 use Rattle.log_reader.proofs.finish.Statement.{statement}
 use Rattle.log_reader.proofs.finish.Tie as tie
 
@@ -17,37 +22,43 @@ part-feed-start : tie.Need-part-feed-start
 part-feed-start c = search needs
 
 part-feed-end : tie.Need-part-feed-end
-part-feed-end c = omega (arith, c .before .before .before .before .before .before .last-lf .ensures, last-short (c .before .before .before .before .before .before .before .before .before .before .before .before .args .reading))
+part-feed-end c = omega (arith, c .before .before .before .before .before .before .before .last-lf .ensures, last-short (c .before .before .before .before .before .before .before .before .before .before .before .before .before .before .args .start .reading))
 
 feed-requires : tie.Need-feed-requires
 feed-requires c κs =
-    let start = c .before .before .before .before .before .before .before .before .before .before .before .before .before in
-    (start .pre .0, ((start .pre .1 .0, simp length-take (omega (arith, c .before .before .before .before .before .before .before .last-lf .ensures, last-short (start .args .reading)))), start .pre .1 .1))
-
-ended-requires : tie.Need-ended-requires
-ended-requires c κs = search needs
+    let start = c .before .before .before .before .before .before .before .before .before .before .before .before .before .before .before in
+    (start .pre .0, ((start .pre .1 .0, simp length-take (omega (arith, c .before .before .before .before .before .before .before .before .last-lf .ensures, last-short (start .args .start .reading)))), start .pre .1 .1))
 
 same-length : tie.Need-same-length
-same-length c = search needs
+same-length c = c .before .before .before .before .before .before .before .before .before .before .before .feed .kept .1 .1 .0
 
 same-length-2 : tie.Need-same-length-2
-same-length-2 c = search needs
+same-length-2 c = c .before .before .before .before .before .before .before .before .before .before .before .feed .kept .1 .1 .1 .0
 
 same-length-3 : tie.Need-same-length-3
-same-length-3 c = search needs
+same-length-3 c = c .before .before .before .before .before .before .before .before .before .before .before .feed .kept .1 .1 .1 .1 .0
 
 same-length-4 : tie.Need-same-length-4
-same-length-4 c = search needs
+same-length-4 c = c .before .before .before .before .before .before .before .before .before .before .before .feed .kept .1 .1 .1 .1 .1 .0
 
 same-length-5 : tie.Need-same-length-5
-same-length-5 c = search needs
+same-length-5 c = c .before .before .before .before .before .before .before .before .before .before .before .feed .kept .1 .1 .1 .1 .1 .1 .0
 
 returns : tie.Need-returns
 returns c =
-    let start = c .before .before .before .before .before .before .before .before .before .before .before .before .before .before .before .before .before .before .before .before .before .before .before .before .before .before in
-    let k = c .before .before .before .before .before .before .before .before .before .before .before .before .feed .ensures in
-    let m = kept-more (start .args .reading) _ 1 (c .before .before .before .before .before .before .before .before .before .before .before .before .feed .result) _ (simp length-take (omega (arith, c .before .before .before .before .before .before .before .before .before .before .before .before .before .before .before .before .before .before .before .before .last-lf .ensures, last-short (start .args .reading)))) k in
-    record { fit = m .fit; numbered = m .numbered }
+    let start = c .before .before .before .before .before .before .before .before .before .before .before .before .before .before .before .before .before .before .before .before .before .before .before .before .before .before .before in
+    let args = start .args in
+    let r = args .start .reading in
+    let p = point r (desk (now (args .block)) (now (args .line)) (now (args .bytes)) (now (args .command))) (now (args .tally)) in
+    let k = c .before .before .before .before .before .before .before .before .before .before .before .feed .ensures in
+    let one = last-part r (c .before .before .before .before .before .before .before .before .before .before .before .before .before .before .before .before .before .before .before .before .last-lf .result) (c .before .before .before .before .before .before .before .before .before .before .before .before .before .before .before .before .before .before .before .before .last-lf .ensures) in
+    record {
+      fit = k .0 .fit;
+      numbered = omega (arith, k .0 .numbered, ap (λ (l : List ℕ). length l) one, last-short r);
+      counts = omega arith;
+      short = omega arith;
+      outcome = outcome-ends (args .quiet) p _ (start .pre .0) (k .0 .fit) (c .before .before .before .before .before .before .before .before .before .before .before .feed .result .state) _ one (k .1);
+    }
 
 pub finish-spec : {M : Type 1} → statement M
 finish-spec =
@@ -58,7 +69,6 @@ finish-spec =
     part-feed-start
     part-feed-end
     feed-requires
-    ended-requires
     same-length
     same-length-2
     same-length-3

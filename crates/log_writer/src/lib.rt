@@ -1,0 +1,50 @@
+// Text written to standard output. What `write` took of it is kept in one lent number, the tally: the kit's contract of `write` says how
+// many bytes it took and nothing of which, so that a contract can name what was printed only by a value that the code carries.
+ghost use mathlib.Core.Path.{_≡_};
+ghost use Prim.Native.Nat.{_≤_};
+ghost use lib.ListN.{length, take};
+ghost use Rattle.log_writer.specs.Tally.{tallied, Sent};
+use libc::STDOUT_FILENO;
+use std::num::wrapping_add_u64;
+
+// Writes all of a text, or as much as can be and says that it could not. Answers whether it was all. By its own loop: `io::write_all`
+// holds 4,096 bytes for a write that comes short, which would stand on the stack beneath the programs' buffers.
+pub fn write_out(tally: &mut u64, text: &[u8]) -> bool
+    ensures { λ r. ⌜ Sent r (now (tally .entry)) (now (text .entry)) (now (tally .exit)) ⌝ }
+{
+    let mut done: usize = 0;
+    while done < text.len() {
+        let n = put(tally, &text[done..]);
+        if n == 0 {
+            os::fail(b"write");
+            return false;
+        }
+        done += n;
+    }
+    true
+}
+
+// One call of `write`, the only one to standard output: the tally goes on by the bytes that it took. That these are the bytes that it
+// was handed is read off these lines.
+fn put(tally: &mut u64, text: &[u8]) -> usize
+    ensures { λ r. ⌜ (r ≤ length (now (text .entry))) × (now (tally .exit) ≡ tallied (now (tally .entry)) (take r (now (text .entry)))) ⌝ }
+{
+    let n = io::count(libc::write(STDOUT_FILENO, text), text);
+    let before = *tally;
+    let after = weigh(before, &text[..n]);
+    *tally = after;
+    n
+}
+
+fn weigh(start: u64, text: &[u8]) -> u64
+    ensures { λ r. ⌜ r ≡ tallied start (now (text .entry)) ⌝ }
+{
+    let mut tally = start;
+    let mut i: usize = 0;
+    while i < text.len() {
+        let b = bits::wide(text[i]);
+        tally = wrapping_add_u64(tally, 4294967296 + b as u64);
+        i += 1;
+    }
+    tally
+}
