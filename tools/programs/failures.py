@@ -74,6 +74,7 @@ def writing(t, p, few=False):
         t.check(f"{name}: room for just all", ended.status == 0 and ended.out == whole and not ended.said, ended.show)
         for deaf in (False, True):
             nobody_reads(t, p, name, log, deaf)
+        fails_once(t, p, name)
         slowly(t, p, name, whole, log)
 
 
@@ -86,6 +87,24 @@ def nobody_reads(t, p, name, log, deaf):
         os.close(theirs)
         clear = ended.failed_clearly() if via == p.run else ended.status not in (0, None) and ended.said != b""
         t.check(f"{name}: nobody reads{', a write fails' if deaf else ''}", clear, ended.show)
+
+
+def fails_once(t, p, name):
+    """A pipe that does not wait, with room for a page: where a long text has none, the short one behind it still has. Once a write has
+    failed nothing more is written, and that is said in one word. The log fills the page up to 40 bytes with refused lines; then a
+    command of two packets is told in 65, and the closing line in 27."""
+    log = {"replay": b"\n" * 347 + answers.hexed(b"\x01" + answers.pulses(bytes((0x22,)).ljust(32, b"\0"))), "plate": dusk(p)}[name]
+    whole = p.run(name, log).out
+    for via in (p.run, p.bin):
+        ours, theirs = os.pipe()
+        fcntl.fcntl(theirs, 1031, 4096)  # F_SETPIPE_SZ
+        os.set_blocking(theirs, False)
+        ended = via(name, stdin=log, stdout=theirs)
+        os.close(theirs)
+        with os.fdopen(ours, "rb") as pipe:
+            ended.out = pipe.read()
+        kept = whole.startswith(ended.out) and 0 < len(ended.out) < len(whole)
+        t.check(f"{name}: a write fails and the next would not", ended.failed_clearly() and kept and ended.said.count(b"\n") == 1, ended.show)
 
 
 def slowly(t, p, name, whole, log):

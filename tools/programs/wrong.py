@@ -27,7 +27,20 @@ def read_all():
         text += part[1:] if fault == "seam" and reads == 2 else part
 
 
+def write_on(lines):
+    """Says that a write failed, and goes on with the next."""
+    for line in lines:
+        while line:
+            try:
+                line = line[os.write(1, line) :]
+            except OSError as why:
+                print(f"write: {why.strerror}", file=sys.stderr)
+                break
+
+
 def write_all(text):
+    if fault == "writes-on":
+        return write_on(text.splitlines(keepends=True))
     while text:
         try:
             done = os.write(1, text)
