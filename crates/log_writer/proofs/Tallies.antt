@@ -65,8 +65,8 @@ module _ (t u : ℕ) (done : List ℕ) (so-far : u ≡ tallied t done) where
         (
           simp (length-append) (omega (arith, k .1 .0)),
           k .1 .1 ∙ ap (λ (x : ℕ). tallied x (take n text)) so-far ∙ sym (tallied-append t done (take n text))
-          ∙ ap (λ (l : List ℕ). tallied t (done ++ l)) (sym (take-append-le n text rest short))
-          ∙ ap (tallied t) (sym (take-append-add done (text ++ rest) n)),
+              ∙ ap (λ (l : List ℕ). tallied t (done ++ l)) (sym (take-append-le n text rest short))
+              ∙ ap (tallied t) (sym (take-append-add done (text ++ rest) n)),
         ),
       )
 

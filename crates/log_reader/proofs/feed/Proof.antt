@@ -75,7 +75,7 @@ returns c =
     let q = point (a .reading) (desk (a .block) (a .line) (a .bytes) (a .command)) (a .tally) in (
       filled-kept (args .quiet) p q (now (args .chunk)) (a .at) (a .out) (f .result) _ _ (a .inv .0) (f .ensures) (w .result),
       stands-ill (args .quiet) p (now (args .chunk)) (f .result .at) (w .result) _ (sym (c .before .is-well .ensures) ∙ not-true (c .before .is-well .result) (c .if2 .taken))
-      (told-turn (args .quiet) p q (now (args .chunk)) (a .at) (a .out) (f .result) _ _ (a .inv .0) (f .ensures) _ refl (w .last .0) (w .result) (w .ensures)),
+          (told-turn (args .quiet) p q (now (args .chunk)) (a .at) (a .out) (f .result) _ _ (a .inv .0) (f .ensures) _ refl (w .last .0) (w .result) (w .ensures)),
     )
 
 loop-less : tie.Need-loop-less Inv-loop μ-loop
@@ -98,7 +98,7 @@ loop-again c =
     let p = point (args .start) (desk (now (args .block)) (now (args .line)) (now (args .bytes)) (now (args .command))) (now (args .tally)) in
     let q = point (a .reading) (desk (a .block) (a .line) (a .bytes) (a .command)) (a .tally) in (
       stands-well (args .quiet) p (now (args .chunk)) (f .result .at) (w .result) _ (sym (c .before .is-well .ensures) ∙ not-false (c .before .is-well .result) (c .if2 .left))
-      (told-turn (args .quiet) p q (now (args .chunk)) (a .at) (a .out) (f .result) _ _ (a .inv .0) (f .ensures) _ refl (w .last .0) (w .result) (w .ensures)),
+          (told-turn (args .quiet) p q (now (args .chunk)) (a .at) (a .out) (f .result) _ _ (a .inv .0) (f .ensures) _ refl (w .last .0) (w .result) (w .ensures)),
       (f .kept .1 .0 ∙ l .0, (f .kept .1 .1 .0 ∙ l .1 .0, (f .kept .1 .1 .1 .0 ∙ l .1 .1 .0, (f .kept .1 .1 .1 .1 .0 ∙ l .1 .1 .1 .0, f .kept .1 .1 .1 .1 .1 .1 .1 .0 ∙ l .1 .1 .1 .1)))),
     )
 

@@ -75,8 +75,7 @@ returns : tie.Need-returns Inv-loop μ-loop
 returns c =
     let args = c .before .before .before .before .before .before .before .before .before .before .before .before .before .before .before .before .before .before .before .before .before .before .before .before .before .before .before .before .before .before .before .before .before .before .before .args in
     let a = c .before .before .before .before .before .before .before .before .before .before .before .before .before .before .before .before .before .before .before .before .before .before .before .loop in
-    let k = c .before .before .before .before .before .before .before .before .before .before .before .before .before .before .turn .ensures .1 in
-    (
+    let k = c .before .before .before .before .before .before .before .before .before .before .before .before .before .before .turn .ensures .1 in (
       (k .fit .valid, k .fit .number-fits),
       so-far-ends (args .quiet) _ _ _ (a .read) (c .before .before .before .before .before .before .before .before .before .before .before .before .before .before .turn .result) _ (a .inv .0) k _ _ refl (c .before .before .before .before .before .before .before .before .before .before .before .before .before .before .before .before .before .before .before .before .before .before .before .before .before .before .before .post-boot .ensures) (sym (c .before .goes-on .ensures) ∙ not-true (c .before .goes-on .result) (c .if1 .taken)),
     )

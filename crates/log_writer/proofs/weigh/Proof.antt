@@ -42,7 +42,7 @@ loop-again c =
     let a = c .before .before .before .before .loop in
     let text = now (c .before .before .before .before .before .before .args .text) in (
       ap (λ (x : ℕ). tallied x (drop (a .i + 1) text)) (c .wrapping-add-u64 .ensures ∙ ap (λ (b : ℕ). (a .tally + (4294967296 + b)) % 2 ^ 64) (c .before .wide .ensures .0))
-      ∙ tallied-turn (a .tally) text (a .i) (c .before .before .before .loop-test .taken) ∙ a .inv .0,
+          ∙ tallied-turn (a .tally) text (a .i) (c .before .before .before .loop-test .taken) ∙ a .inv .0,
       (omega arith, a .inv .1 .1),
     )
 

@@ -60,7 +60,7 @@ loop-again c =
     let a = c .before .before .before .before .before .before .before .before .before .before .before .before .before .loop in
     let w = c .before .write-out in (
       rows-next (now (args .block)) (now (args .tally)) (a .tally) (a .y) (a .inv .0) (c .before .before .before .before .before .before .before .before .before .before .before .before .loop-test .taken) _ (a .out) _ refl (c .before .before .before .before .before .before .before .before .before .row-line .ensures .1) (w .last .0) (w .result)
-      (not-false (w .result) (c .if1 .left)) (w .ensures),
+          (not-false (w .result) (c .if1 .left)) (w .ensures),
       (c .before .before .before .before .before .before .before .before .before .row-line .kept .1 .1 .1 .1 .1 .0 ∙ a .inv .1 .0, c .before .before .before .before .before .before .before .before .before .row-line .kept .1 .1 .1 .1 .1 .1 .0 ∙ a .inv .1 .1),
     )
 
