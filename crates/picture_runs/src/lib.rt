@@ -176,7 +176,7 @@ fn shade(s: u16, j: usize) -> usize
     (s >> (14 - 2 * j) & 3) as usize
 }
 
-// Colour k of a lent table: it holds words, since a slice of structs can't be lent.
+// Colour k of a lent table. It holds words: the borrow checker does not cover a slice of structs.
 fn color_in(table: &[u16], k: usize) -> Rgb555
     requires { ⌜ k < length (now table) ⌝ }
     ensures { λ r. ⌜ r .0 ≡ getD (now (table .entry)) k 0 ⌝ }
