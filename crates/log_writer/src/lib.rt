@@ -7,16 +7,26 @@ ghost use Rattle.log_writer.specs.Tally.{tallied, Sent};
 use libc::STDOUT_FILENO;
 use std::num::wrapping_add_u64;
 
-// Writes all of a text, or as much as can be and says that it could not. Answers whether it was all. By its own loop: `io::write_all`
-// holds 4,096 bytes for a write that comes short, which would stand on the stack beneath the programs' buffers.
+// Writes all of a text, or as much as can be, and then says that it could not. Answers whether it was all.
 pub fn write_out(tally: &mut u64, text: &[u8]) -> bool
+    ensures { λ r. ⌜ Sent r (now (tally .entry)) (now (text .entry)) (now (tally .exit)) ⌝ }
+{
+    let whole = hand_over(tally, text);
+    if !whole {
+        os::fail(b"write");
+    }
+    whole
+}
+
+// By its own loop: `io::write_all` holds 4,096 bytes for a write that comes short, which would stand on the stack beneath the programs'
+// buffers.
+fn hand_over(tally: &mut u64, text: &[u8]) -> bool
     ensures { λ r. ⌜ Sent r (now (tally .entry)) (now (text .entry)) (now (tally .exit)) ⌝ }
 {
     let mut done: usize = 0;
     while done < text.len() {
         let n = put(tally, &text[done..]);
         if n == 0 {
-            os::fail(b"write");
             return false;
         }
         done += n;

@@ -7,14 +7,14 @@ use native.Mathlib.Omega.{arith}
 use lib.ListN.{length, take}
 use Rattle.log_writer.specs.Tally.{tallied}
 use Rattle.log_writer.proofs.Tallies.{rest-most, tallied-more, sent-all, sent-some}
-use Rattle.log_writer.proofs.write_out.Statement.{statement}
-use Rattle.log_writer.proofs.write_out.Tie as tie
+use Rattle.log_writer.proofs.hand_over.Statement.{statement}
+use Rattle.log_writer.proofs.hand_over.Tie as tie
 
 abbrev Inv-loop : tie.InvT-loop
-Inv-loop tally₀ text done₀ t5 tally done = (tally ≡ tallied tally₀ (take done text)) × ((done ≤ length text) × (length text < 18446744073709551616))
+Inv-loop tally₀ text done₀ tally done = (tally ≡ tallied tally₀ (take done text)) × ((done ≤ length text) × (length text < 18446744073709551616))
 
 abbrev μ-loop : tie.MeasureT-loop
-μ-loop tally₀ text done₀ t5 tally done = length text - done
+μ-loop tally₀ text done₀ tally done = length text - done
 
 loop-holds : tie.Need-loop-holds Inv-loop μ-loop
 loop-holds c = ((unfold tallied in refl), (omega arith, omega arith))
@@ -31,18 +31,12 @@ part-put-end c = search needs
 put-requires : tie.Need-put-requires Inv-loop μ-loop
 put-requires c κs = tt
 
-slice-aggregate-fail : tie.Need-slice-aggregate-fail Inv-loop μ-loop
-slice-aggregate-fail c = search needs
-
-fail-requires : tie.Need-fail-requires Inv-loop μ-loop
-fail-requires c κs = tt
-
 returns : tie.Need-returns Inv-loop μ-loop
 returns c =
-    let start = c .before .before .before .before .before .before .before .before .before in
-    let a = c .before .before .before .before .before .before .before .loop in
-    let p = c .before .before .before .put in
-    sent-some (now (start .args .tally)) (a .tally) (now (start .args .text)) (a .done) (a .inv .0) (p .last .0) (p .result) (c .before .before .if1 .taken) (p .ensures .0) (c .before .before .before .before .before .before .loop-test .taken) (p .ensures .1)
+    let start = c .before .before .before .before .before .before .before in
+    let a = c .before .before .before .before .before .loop in
+    let p = c .before .put in
+    sent-some (now (start .args .tally)) (a .tally) (now (start .args .text)) (a .done) (a .inv .0) (p .last .0) (p .result) (c .if1 .taken) (p .ensures .0) (c .before .before .before .before .loop-test .taken) (p .ensures .1)
 
 add-done : tie.Need-add-done Inv-loop μ-loop
 add-done c =
@@ -71,8 +65,8 @@ returns-2 c =
     let a = c .before .loop in
     sent-all (now (start .args .tally)) (a .tally) (now (start .args .text)) (a .done) (a .inv .0) (c .loop-test .left)
 
-pub write-out-spec : {M : Type 1} → statement M
-write-out-spec =
+pub hand-over-spec : {M : Type 1} → statement M
+hand-over-spec =
     tie.close
     (tie.spec
     Inv-loop
@@ -82,8 +76,6 @@ write-out-spec =
     part-put-start
     part-put-end
     put-requires
-    slice-aggregate-fail
-    fail-requires
     returns
     add-done
     loop-less
