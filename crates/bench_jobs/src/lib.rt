@@ -11,7 +11,7 @@ ghost use Rattle.block_picture.specs.Drawn.{partsOf};
 ghost use mathlib.Core.Bool.{true};
 ghost use Rattle.log_line.specs.Line.{lineDigits};
 ghost use Rattle.log.specs.Steps.{desk, left};
-ghost use Rattle.log_reader.specs.Fed.{Sized, chunkBytes, outBytes};
+ghost use Rattle.log_reader.specs.Fed.{LentSizes, chunkBytes, outBytes};
 use log::Reading;
 use log_reader::CHUNK_BYTES;
 use log_reader::OUT_BYTES;
@@ -98,7 +98,7 @@ fn read_log(
     text: &mut [u8],
     keep: bool,
 ) -> usize
-    requires { ⌜ Sized (desk (now block) (now line) (now bytes) (now command)) × (length (now input) < 4294967296) ⌝ }
+    requires { ⌜ LentSizes (desk (now block) (now line) (now bytes) (now command)) × (length (now input) < 4294967296) ⌝ }
     ensures { λ r. ⌜ Valid (now (block .exit)) × (r ≤ length (now (text .entry))) ⌝ }
 {
     block_fresh::post_boot(block);

@@ -19,7 +19,7 @@ use Rattle.log.specs.Steps.{Desk, pending, lastLf, toTell, toEnd, Fit}
 use Rattle.log.specs.declared.Reading.{Reading}
 use Rattle.log.proofs.Prints.{last-tells, last-ends}
 use Rattle.log.proofs.Whole.{all-told, all-done}
-use Rattle.log_reader.specs.Read.{Behind, Point, tellsFrom, Begins, Goes, Onward, Done, Cut, Halted, Outcome}
+use Rattle.log_reader.specs.Read.{Behind, Point, tellsFrom, Begins, Goes, Onward, Finished, Cut, Halted, Stands}
 use Rattle.log_reader.specs.declared.State.{State}
 use Rattle.log_reader.specs.declared.State.the-variants.{Well, Failed, Refused}
 
@@ -112,7 +112,7 @@ module _ (quiet : Bool) (p q : Point) (f : Fit (p .reading) (p .desk)) (f′ : F
     ap (tellsFrom p) none ∙ last-tells (p .reading) (p .desk) f ∙ ap (tellsFrom p) (sym (append-nil lf)) ∙ b [] tt .1,
   )
 
-  done-last : Onward quiet p lf q → Done quiet p [] q
+  done-last : Onward quiet p lf q → Finished quiet p [] q
   done-last o =
       let g : Goes quiet p lf (o .events) q [] = o .goes in
       let h : heldAs (q .reading .held) (q .desk .line) ≡ some [] = none-held (p .reading) (p .desk) (o .events) (q .reading) (q .desk) f′ (λ rest. g .tells rest) in
@@ -125,11 +125,11 @@ module _ (quiet : Bool) (p q : Point) (f : Fit (p .reading) (p .desk)) (f′ : F
         passes = g .passes;
       }
 
-  outcome-last : (s : State) → Outcome s false quiet p lf q → Outcome s true quiet p [] q
-  unfolding Outcome
+  outcome-last : (s : State) → Stands s false quiet p lf q → Stands s true quiet p [] q
+  unfolding Stands
   outcome-last Well o = done-last o
   outcome-last Failed o = record { events = o .events; begins = begins-last (o .events) (o .begins); size = o .size; prints = o .prints }
   outcome-last Refused o = record { events = o .events; begins = begins-last (o .events) (o .begins); stops = o .stops; still = o .still; prints = o .prints }
 
-  pub outcome-ends : (s : State) (came : List ℕ) → came ≡ lf → Outcome s false quiet p came q → Outcome s true quiet p [] q
-  outcome-ends s came e o = outcome-last s (subst (λ (l : List ℕ). Outcome s false quiet p l q) e o)
+  pub outcome-ends : (s : State) (came : List ℕ) → came ≡ lf → Stands s false quiet p came q → Stands s true quiet p [] q
+  outcome-ends s came e o = outcome-last s (subst (λ (l : List ℕ). Stands s false quiet p l q) e o)

@@ -1,4 +1,4 @@
--- A turn of feeding is a fill, told: it keeps what the steps of `log` require, leaves less to do, and goes on, or ends as `Outcome` has it.
+-- A turn of feeding is a fill, told: it keeps what the steps of `log` require, leaves less to do, and goes on, or ends as `Stands` has it.
 use mathlib.Core.Path.{_≡_, refl, sym, ap, ap₂, _∙_, subst, subst⁻¹}
 use mathlib.Core.Bool.{Bool, true, false, cond, false≢true}
 use mathlib.Core.List.{List, [], _++_}
@@ -19,7 +19,7 @@ use Rattle.log.specs.declared.Reading.{Reading}
 use Rattle.log.proofs.Fills.{Tells, Fill·Keeps, fill-keeps, fill-less}
 use Rattle.log.proofs.Prints.{Shape, fill-on, tells-on, fill-shape}
 use Rattle.log_reader.specs.Fed.{Kept}
-use Rattle.log_reader.specs.Read.{textOf, Passed, Stopped, isWell, ToldAs, Point, point, Goes, Onward, Cut, Halted, Outcome}
+use Rattle.log_reader.specs.Read.{textOf, Unrefused, Stopped, isWell, ToldAs, Point, point, Goes, Onward, Cut, Halted, Stands}
 use Rattle.log_reader.specs.declared.Fed.{Fed}
 use Rattle.log_reader.specs.declared.State.{State}
 use Rattle.log_reader.specs.declared.State.the-variants.{Well, Failed, Refused}
@@ -117,7 +117,7 @@ module _ (quiet : Bool) (p q : Point) (chunk : List ℕ) (at : ℕ) (out : List 
 
   -- ---- and then
 
-  go-on : (t′ : ℕ) → t′ ≡ tallied (q .tally) (textOf quiet fs) → (quiet ≡ true → Passed fs) → Turn quiet p chunk (point (g .reading) e t′) (g .at)
+  go-on : (t′ : ℕ) → t′ ≡ tallied (q .tally) (textOf quiet fs) → (quiet ≡ true → Unrefused fs) → Turn quiet p chunk (point (g .reading) e t′) (g .at)
   go-on t′ h pass = record {
     events = t .events ++ fs;
     goes = record {
@@ -190,15 +190,15 @@ stands-well quiet p chunk at Well z e h = h
 stands-well quiet p chunk at Failed z e h = absurd (false≢true e)
 stands-well quiet p chunk at Refused z e h = absurd (false≢true e)
 
-pub stands-ill : (quiet : Bool) (p : Point) (chunk : List ℕ) (at : ℕ) (s : State) (z : Point) → isWell s ≡ false → Standing quiet p chunk at s z → Outcome s false quiet p chunk z
-unfolding Outcome
+pub stands-ill : (quiet : Bool) (p : Point) (chunk : List ℕ) (at : ℕ) (s : State) (z : Point) → isWell s ≡ false → Standing quiet p chunk at s z → Stands s false quiet p chunk z
+unfolding Stands
 stands-ill quiet p chunk at Well z e h = absurd (false≢true (sym e))
 stands-ill quiet p chunk at Failed z e h = h
 stands-ill quiet p chunk at Refused z e h = h
 
 -- nothing is left of the chunk: it was taken whole
-pub turn-whole : (quiet : Bool) (p : Point) (chunk : List ℕ) (q : Point) (at : ℕ) → Turn quiet p chunk q at → ltb 0 (left (q .reading) (length chunk) at) ≡ false → Outcome Well false quiet p chunk q
-unfolding Outcome left
+pub turn-whole : (quiet : Bool) (p : Point) (chunk : List ℕ) (q : Point) (at : ℕ) → Turn quiet p chunk q at → ltb 0 (left (q .reading) (length chunk) at) ≡ false → Stands Well false quiet p chunk q
+unfolding Stands left
 turn-whole quiet p chunk q at t h =
     let z : (length chunk - at) * (captureBytes + 2) + (q .reading .upto - q .reading .from) ≤ 0 = ltb-false 0 _ h in
     let past : at ≡ length chunk = omega (arith, z, t .within) in

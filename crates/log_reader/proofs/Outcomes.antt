@@ -19,8 +19,8 @@ use Rattle.log.specs.Texts.{refusedOr, pictureLines, plateText}
 use Rattle.log.specs.Steps.{Desk, desk, begun, toEnd, Fit}
 use Rattle.log.specs.declared.Reading.{Reading}
 use Rattle.log.proofs.Whole.{begins, begins-end}
-use Rattle.log_reader.specs.Fed.{Sized}
-use Rattle.log_reader.specs.Read.{textOf, Passed, Behind, goesOn, Point, point, tellsFrom, Begins, Goes, Onward, Done, Cut, Halted, Outcome, Turned, Whole, Reached}
+use Rattle.log_reader.specs.Fed.{LentSizes}
+use Rattle.log_reader.specs.Read.{textOf, Unrefused, Behind, readsOn, Point, point, tellsFrom, Begins, Goes, Onward, Finished, Cut, Halted, Stands, Turned, ReadWhole, Reached}
 use Rattle.log_reader.specs.declared.Read.{Read}
 use Rattle.log_reader.specs.declared.State.{State}
 use Rattle.log_reader.specs.declared.State.the-variants.{Well, Failed, Refused}
@@ -52,7 +52,7 @@ module _ (quiet : Bool) (p q z : Point) (a b : List ℕ) (o : Onward quiet p a q
     played = k .played;
   }
 
-  done-on : Done quiet q b z → Done quiet p (a ++ b) z
+  done-on : Finished quiet q b z → Finished quiet p (a ++ b) z
   done-on k = record {
     events = es ++ k .events;
     tells = o .goes .tells b ∙ ap (λ (l : List Event). es ++ l) (k .tells);
@@ -68,8 +68,8 @@ module _ (quiet : Bool) (p q z : Point) (a b : List ℕ) (o : Onward quiet p a q
   unfolding tallied
   silent s = o .goes .prints ∙ ap (tallied (p .tally)) (text-quiet quiet es s)
 
-  pub outcome-on : (s : State) (ended : Bool) → Outcome s ended quiet q b z → Outcome s ended quiet p (a ++ b) z
-  unfolding Outcome
+  pub outcome-on : (s : State) (ended : Bool) → Stands s ended quiet q b z → Stands s ended quiet p (a ++ b) z
+  unfolding Stands
   outcome-on Well false k = onward-on k
   outcome-on Well true k = done-on k
   outcome-on Failed ended k = record {
@@ -93,8 +93,8 @@ pub onward-none : (quiet : Bool) (d : Desk) (t : ℕ) → Onward quiet (point be
 onward-none quiet d t = record { events = []; goes = goes-none quiet (point begun d t) []; played = omega arith }
 
 -- what came is told, and no more will be
-pub onward-cut : (quiet : Bool) (p q : Point) (a : List ℕ) → Onward quiet p a q → Outcome Failed false quiet p a q
-unfolding Outcome
+pub onward-cut : (quiet : Bool) (p q : Point) (a : List ℕ) → Onward quiet p a q → Stands Failed false quiet p a q
+unfolding Stands
 onward-cut quiet p q a o = record {
   events = o .events;
   begins = λ rest h. (tellsFrom q rest, o .goes .tells rest);
@@ -103,8 +103,8 @@ onward-cut quiet p q a o = record {
 }
 
 -- a read that does not go on has not left it open
-pub onward-well : (quiet : Bool) (s : State) (ended : Bool) (p q : Point) (a : List ℕ) → goesOn s ended ≡ true → Outcome s ended quiet p a q → Onward quiet p a q
-unfolding Outcome
+pub onward-well : (quiet : Bool) (s : State) (ended : Bool) (p q : Point) (a : List ℕ) → readsOn s ended ≡ true → Stands s ended quiet p a q → Onward quiet p a q
+unfolding Stands
 onward-well quiet Well false p q a e k = k
 onward-well quiet Well true p q a e k = absurd (false≢true e)
 onward-well quiet Failed false p q a e k = absurd (false≢true e)
@@ -119,7 +119,7 @@ module _ (quiet : Bool) (d : Desk) (t : ℕ) (boot : d .block ≡ postBoot) (z :
   events-are : (ended : Bool) (es : List Event) → Begins ended start input es → (rest : List ℕ) → Behind ended rest → (more : List Event) × (eventsOf (input ++ rest) ≡ es ++ more)
   events-are ended es b rest h = (b rest h .0, sym (begins d boot (input ++ rest)) ∙ b rest h .1)
 
-  whole : Done quiet start input z → Whole quiet input (z .desk .block) t (z .tally)
+  whole : Finished quiet start input z → ReadWhole quiet input (z .desk .block) t (z .tally)
   unfolding plateText refusedOr
   whole k =
       let e : eventsOf input ≡ k .events = sym (begins d boot input) ∙ k .tells in
@@ -156,8 +156,8 @@ module _ (quiet : Bool) (d : Desk) (t : ℕ) (boot : d .block ≡ postBoot) (z :
     ),
   )
 
-  pub reached : (s : State) (ended : Bool) → goesOn s ended ≡ false → Outcome s ended quiet start input z → Reached s ended quiet input (z .reading) (z .desk .block) t (z .tally)
-  unfolding Outcome
+  pub reached : (s : State) (ended : Bool) → readsOn s ended ≡ false → Stands s ended quiet start input z → Reached s ended quiet input (z .reading) (z .desk .block) t (z .tally)
+  unfolding Stands
   reached Well false e k = absurd (false≢true (sym e))
   reached Well true e k = unfold Reached in whole k
   reached Failed ended e k = cut ended k
@@ -169,7 +169,7 @@ boot-valid : (b : List ℕ) → b ≡ postBoot → Valid b
 unfolding postBoot
 boot-valid b e = saved-valid (fresh true) (fresh-good true) b e
 
-pub boot-fit : (d : Desk) (b : List ℕ) → Sized d → b ≡ postBoot → Fit begun (desk b (d .line) (d .bytes) (d .command))
+pub boot-fit : (d : Desk) (b : List ℕ) → LentSizes d → b ≡ postBoot → Fit begun (desk b (d .line) (d .bytes) (d .command))
 boot-fit d b s e = record {
   valid = boot-valid b e;
   line-long = s .line-long;
@@ -181,7 +181,7 @@ boot-fit d b s e = record {
   number-fits = omega arith;
 }
 
-pub sized-kept : (d : Desk) (b l y c : List ℕ) → Sized d → length b ≡ length (d .block) → length l ≡ length (d .line) → length y ≡ length (d .bytes) → length c ≡ length (d .command) → Sized (desk b l y c)
+pub sized-kept : (d : Desk) (b l y c : List ℕ) → LentSizes d → length b ≡ length (d .block) → length l ≡ length (d .line) → length y ≡ length (d .bytes) → length c ≡ length (d .command) → LentSizes (desk b l y c)
 sized-kept d b l y c s h i j k = record { block-long = h ∙ s .block-long; line-long = i ∙ s .line-long; bytes-long = j ∙ s .bytes-long; command-long = k ∙ s .command-long }
 
 -- ---- the reads so far
@@ -198,25 +198,25 @@ so-far-none quiet d t r e f =
     (record { input = []; counts = refl; onward = onward-none quiet d t; fit = f })
 
 -- a read that failed
-pub cut-none : (quiet : Bool) (p : Point) → Outcome Failed false quiet p [] p
-unfolding Outcome tallied
+pub cut-none : (quiet : Bool) (p : Point) → Stands Failed false quiet p [] p
+unfolding Stands tallied
 cut-none quiet p = record { events = []; begins = λ rest h. (tellsFrom p rest, refl); size = 0; prints = refl }
 
 module _ (quiet : Bool) (p q z : Point) (f g : Read) (came : List ℕ) (so-far : SoFar quiet p f q) (k : Turned quiet f q came g z) where
   counted : length (so-far .input ++ came) ≡ g .got
   counted = length-append (so-far .input) came ∙ omega (arith, so-far .counts, k .counts)
 
-  all : Outcome (g .state) (g .ended) quiet p (so-far .input ++ came) z
+  all : Stands (g .state) (g .ended) quiet p (so-far .input ++ came) z
   all = outcome-on quiet p q z (so-far .input) came (so-far .onward) (g .state) (g .ended) (k .outcome)
 
-  pub so-far-on : goesOn (g .state) (g .ended) ≡ true → SoFar quiet p g z
+  pub so-far-on : readsOn (g .state) (g .ended) ≡ true → SoFar quiet p g z
   so-far-on e = record { input = so-far .input ++ came; counts = counted; onward = onward-well quiet (g .state) (g .ended) p z (so-far .input ++ came) e all; fit = k .fit }
 
-  pub so-far-ends : (d : Desk) (t : ℕ) → p ≡ point begun d t → d .block ≡ postBoot → goesOn (g .state) (g .ended) ≡ false
+  pub so-far-ends : (d : Desk) (t : ℕ) → p ≡ point begun d t → d .block ≡ postBoot → readsOn (g .state) (g .ended) ≡ false
       → (input : List ℕ) × ((length input ≡ g .got) × Reached (g .state) (g .ended) quiet input (z .reading) (z .desk .block) t (z .tally))
   so-far-ends d t is boot e = (
     so-far .input ++ came,
-    (counted, reached quiet d t boot z (so-far .input ++ came) (g .state) (g .ended) e (subst (λ (x : Point). Outcome (g .state) (g .ended) quiet x (so-far .input ++ came) z) is all)),
+    (counted, reached quiet d t boot z (so-far .input ++ came) (g .state) (g .ended) e (subst (λ (x : Point). Stands (g .state) (g .ended) quiet x (so-far .input ++ came) z) is all)),
   )
 
 -- and no more are made

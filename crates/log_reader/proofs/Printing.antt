@@ -13,7 +13,7 @@ use Rattle.log.specs.Events.{Event}
 use Rattle.log.specs.Texts.{shown, refusedOr}
 use Rattle.log.proofs.Prints.{Shape, passes, refused-first}
 use Rattle.log.proofs.Turns.{shown-append}
-use Rattle.log_reader.specs.Read.{textOf, Passed, Stopped}
+use Rattle.log_reader.specs.Read.{textOf, Unrefused, Stopped}
 
 pub text-none : (quiet : Bool) → textOf quiet [] ≡ []
 unfolding textOf shown
@@ -63,13 +63,13 @@ front n a b =
 
 -- ---- refusals
 
-pub passed-on : (es fs : List Event) → Passed es → Passed fs → Passed (es ++ fs)
+pub passed-on : (es fs : List Event) → Unrefused es → Unrefused fs → Unrefused (es ++ fs)
 passed-on es fs a b = λ more picture. ap (λ (l : List Event). refusedOr l picture) (append-assoc es fs more) ∙ a (fs ++ more) picture ∙ b more picture
 
-pub stopped-on : (es fs : List Event) (k : ℕ) → Passed es → Stopped fs k → Stopped (es ++ fs) k
+pub stopped-on : (es fs : List Event) (k : ℕ) → Unrefused es → Stopped fs k → Stopped (es ++ fs) k
 stopped-on es fs k a b = λ more picture. ap (λ (l : List Event). refusedOr l picture) (append-assoc es fs more) ∙ a (fs ++ more) picture ∙ b more picture
 
-pub shape-passed : (es : List Event) (k : ℕ) → Shape false es k → Passed es
+pub shape-passed : (es : List Event) (k : ℕ) → Shape false es k → Unrefused es
 unfolding Shape
 shape-passed es k h = λ more picture. passes es more picture h
 

@@ -24,7 +24,7 @@ abbrev pub mostBytes : ℕ
 mostBytes = 1152921504606846976
 
 -- the buffers as they are lent at first
-pub record Sized (d : Desk) : Type 0 where
+pub record LentSizes (d : Desk) : Type 0 where
   pub block-long : length (d .block) ≡ blockBytes
   pub line-long : length (d .line) ≡ lineDigits
   pub bytes-long : length (d .bytes) ≡ captureBytes

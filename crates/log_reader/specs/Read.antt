@@ -25,8 +25,8 @@ textOf true es = []
 textOf false es = shown es
 
 -- no line is refused among these events: what a plate prints is told by those behind them
-abbrev pub Passed : List Event → Type 0
-Passed es = (more : List Event) (picture : List ℕ) → refusedOr (es ++ more) picture ≡ refusedOr more picture
+abbrev pub Unrefused : List Event → Type 0
+Unrefused es = (more : List Event) (picture : List ℕ) → refusedOr (es ++ more) picture ≡ refusedOr more picture
 
 -- line k is the first that is refused, whatever comes behind
 abbrev pub Stopped : List Event → ℕ → Type 0
@@ -44,8 +44,8 @@ isWell Well = true
 isWell Failed = false
 isWell Refused = false
 
-abbrev pub goesOn : State → Bool → Bool
-goesOn s ended = cond ended false (isWell s)
+abbrev pub readsOn : State → Bool → Bool
+readsOn s ended = cond ended false (isWell s)
 
 -- the state behind a fill and its tally: quiet, by whether a line was refused; else by whether the text went out
 unfoldable pub ToldAs : Bool → Bool → ℕ → List ℕ → State → ℕ → Type 0
@@ -71,7 +71,7 @@ pub record Goes (quiet : Bool) (p : Point) (came : List ℕ) (es : List Event) (
   pub tells : (rest : List ℕ) → tellsFrom p (came ++ rest) ≡ es ++ tellsFrom q (left ++ rest)
   pub ends : (rest : List ℕ) → toEnd (p .reading) (p .desk) (came ++ rest) ≡ toEnd (q .reading) (q .desk) (left ++ rest)
   pub prints : q .tally ≡ tallied (p .tally) (textOf quiet es)
-  pub passes : quiet ≡ true → Passed es
+  pub passes : quiet ≡ true → Unrefused es
 
 -- all that came is taken, and its writes are played
 pub record Onward (quiet : Bool) (p : Point) (came : List ℕ) (q : Point) : Type 0 where
@@ -80,12 +80,12 @@ pub record Onward (quiet : Bool) (p : Point) (came : List ℕ) (q : Point) : Typ
   pub played : q .reading .upto ≤ q .reading .from
 
 -- the input has ended: these are all events, and the block is the unit at the end
-pub record Done (quiet : Bool) (p : Point) (came : List ℕ) (q : Point) : Type 0 where
+pub record Finished (quiet : Bool) (p : Point) (came : List ℕ) (q : Point) : Type 0 where
   pub events : List Event
   pub tells : tellsFrom p came ≡ events
   pub ends : toEnd (p .reading) (p .desk) came ≡ load (q .desk .block)
   pub prints : q .tally ≡ tallied (p .tally) (textOf quiet events)
-  pub passes : quiet ≡ true → Passed events
+  pub passes : quiet ≡ true → Unrefused events
 
 -- these events are the first, whatever the input goes on with
 abbrev pub Begins : Bool → Point → List ℕ → List Event → Type 0
@@ -106,11 +106,11 @@ pub record Halted (ended quiet : Bool) (p : Point) (came : List ℕ) (q : Point)
   pub still : quiet ≡ true
   pub prints : q .tally ≡ p .tally
 
-unfoldable pub Outcome : State → Bool → Bool → Point → List ℕ → Point → Type 0
-Outcome Well false quiet p came q = Onward quiet p came q
-Outcome Well true quiet p came q = Done quiet p came q
-Outcome Failed ended quiet p came q = Cut ended quiet p came q
-Outcome Refused ended quiet p came q = Halted ended quiet p came q
+unfoldable pub Stands : State → Bool → Bool → Point → List ℕ → Point → Type 0
+Stands Well false quiet p came q = Onward quiet p came q
+Stands Well true quiet p came q = Finished quiet p came q
+Stands Failed ended quiet p came q = Cut ended quiet p came q
+Stands Refused ended quiet p came q = Halted ended quiet p came q
 
 -- a read and what it fed
 pub record Turned (quiet : Bool) (f : Read) (p : Point) (came : List ℕ) (g : Read) (q : Point) : Type 0 where
@@ -118,12 +118,12 @@ pub record Turned (quiet : Bool) (f : Read) (p : Point) (came : List ℕ) (g : R
   pub numbered : q .reading .number ≤ p .reading .number + chunkBytes
   pub counts : g .got ≡ f .got + length came
   pub short : length came ≤ chunkBytes
-  pub outcome : Outcome (g .state) (g .ended) quiet p came q
+  pub outcome : Stands (g .state) (g .ended) quiet p came q
 
 -- ---- from the start of a log
 
 -- an input that was read to its end: all its text is written; the block is the unit at its end; a quiet reading met no refused line
-pub record Whole (quiet : Bool) (input : List ℕ) (block : List ℕ) (t t′ : ℕ) : Type 0 where
+pub record ReadWhole (quiet : Bool) (input : List ℕ) (block : List ℕ) (t t′ : ℕ) : Type 0 where
   pub unit-is : load block ≡ unitAfter input
   pub prints : t′ ≡ tallied t (textOf quiet (eventsOf input))
   pub passes : quiet ≡ true → plateText input ≡ pictureLines (unitAfter input)
@@ -131,7 +131,7 @@ pub record Whole (quiet : Bool) (input : List ℕ) (block : List ℕ) (t t′ : 
 -- by the state: the whole; a beginning of the text of the input, however it goes on; the first refused line, and nothing written
 unfoldable pub Reached : State → Bool → Bool → List ℕ → Reading → List ℕ → ℕ → ℕ → Type 0
 Reached Well false quiet input r block t t′ = ⊥
-Reached Well true quiet input r block t t′ = Whole quiet input block t t′
+Reached Well true quiet input r block t t′ = ReadWhole quiet input block t t′
 Reached Failed ended quiet input r block t t′ =
     (n : ℕ)
     × ((rest : List ℕ) → Behind ended rest

@@ -8,8 +8,8 @@ ghost use Prim.Native.Nat.{ℕ, _+_, _≤_};
 ghost use lib.ListN.{length, take};
 ghost use Rattle.layout.specs.Valid.{Valid};
 ghost use Rattle.log.specs.Steps.{Fit, desk};
-ghost use Rattle.log_reader.specs.Fed.{Sized, Kept, chunkBytes, outBytes, mostLines, mostBytes};
-ghost use Rattle.log_reader.specs.Read.{point, isWell, goesOn, ToldAs, Outcome, Turned, Reached};
+ghost use Rattle.log_reader.specs.Fed.{LentSizes, Kept, chunkBytes, outBytes, mostLines, mostBytes};
+ghost use Rattle.log_reader.specs.Read.{point, isWell, readsOn, ToldAs, Stands, Turned, Reached};
 use libc::STDERR_FILENO;
 use libc::STDIN_FILENO;
 use log::Reading;
@@ -61,7 +61,7 @@ pub fn read_log(
     chunk: &mut [u8],
     quiet: bool,
 ) -> Read
-    requires { ⌜ Sized (desk (now block) (now line) (now bytes) (now command)) ⌝ }
+    requires { ⌜ LentSizes (desk (now block) (now line) (now bytes) (now command)) ⌝ }
     requires { ⌜ (length (now out) ≡ outBytes) × (length (now chunk) ≡ chunkBytes) ⌝ }
     ensures { λ r. ⌜ Valid (now (block .exit)) × (1 ≤ r .reading .number) ⌝ }
     ensures { λ r. ⌜ ((input : List ℕ) × ((length input ≡ r .got) × Reached (r .state) (r .ended) quiet input (r .reading) (now (block .exit)) (now (tally .entry)) (now (tally .exit)))) ⌝ }
@@ -202,7 +202,7 @@ fn feed(
     requires { ⌜ (start .number ≤ mostLines) × (length (now chunk) ≤ chunkBytes) ⌝ }
     requires { ⌜ length (now out) ≡ outBytes ⌝ }
     ensures { λ r. ⌜ Kept start (length (now (chunk .entry))) r (desk (now (block .exit)) (now (line .exit)) (now (bytes .exit)) (now (command .exit))) ⌝ }
-    ensures { λ r. ⌜ Outcome (r .state) false quiet (point start (desk (now (block .entry)) (now (line .entry)) (now (bytes .entry)) (now (command .entry))) (now (tally .entry))) (now (chunk .entry)) (point (r .reading) (desk (now (block .exit)) (now (line .exit)) (now (bytes .exit)) (now (command .exit))) (now (tally .exit))) ⌝ }
+    ensures { λ r. ⌜ Stands (r .state) false quiet (point start (desk (now (block .entry)) (now (line .entry)) (now (bytes .entry)) (now (command .entry))) (now (tally .entry))) (now (chunk .entry)) (point (r .reading) (desk (now (block .exit)) (now (line .exit)) (now (bytes .exit)) (now (command .exit))) (now (tally .exit))) ⌝ }
 {
     let mut reading = start;
     let mut at = 0;
@@ -256,7 +256,7 @@ fn is_well(fed: Fed) -> bool
 }
 
 fn goes_on(read: Read) -> bool
-    ensures { λ r. ⌜ r ≡ goesOn (read .state) (read .ended) ⌝ }
+    ensures { λ r. ⌜ r ≡ readsOn (read .state) (read .ended) ⌝ }
 {
     if read.ended {
         return false;

@@ -12,7 +12,7 @@ ghost use Rattle.log.specs.Steps.{desk};
 ghost use Rattle.log.specs.Texts.{pictureLines, plateText};
 ghost use Rattle.log_text.specs.Text.{refusalText};
 ghost use Rattle.log_writer.specs.Tally.{Sent};
-ghost use Rattle.log_reader.specs.Fed.{Sized, chunkBytes, outBytes};
+ghost use Rattle.log_reader.specs.Fed.{LentSizes, chunkBytes, outBytes};
 ghost use Rattle.log_reader.specs.Read.{Printed};
 ghost use Rattle.plate.specs.Closed.{Closed};
 use log_reader::Print;
@@ -47,7 +47,7 @@ fn plate(
     out: &mut [u8],
     chunk: &mut [u8],
 ) -> Print
-    requires { ⌜ Sized (desk (now block) (now line) (now bytes) (now command)) ⌝ }
+    requires { ⌜ LentSizes (desk (now block) (now line) (now bytes) (now command)) ⌝ }
     requires { ⌜ (length (now out) ≡ outBytes) × (length (now chunk) ≡ chunkBytes) ⌝ }
     ensures { λ r. ⌜ ((input : List ℕ) × ((length input ≡ r .got) × Printed (r .whole) (r .ended) plateText input (now (tally .entry)) (now (tally .exit)))) ⌝ }
 {

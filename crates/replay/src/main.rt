@@ -8,7 +8,7 @@ ghost use Rattle.layout.specs.Valid.{Valid};
 ghost use Rattle.log.specs.Steps.{desk};
 ghost use Rattle.log.specs.Texts.{headLine, replayText};
 ghost use Rattle.log_writer.specs.Tally.{Sent};
-ghost use Rattle.log_reader.specs.Fed.{Sized, chunkBytes, outBytes};
+ghost use Rattle.log_reader.specs.Fed.{LentSizes, chunkBytes, outBytes};
 ghost use Rattle.log_reader.specs.Read.{Printed};
 use log_reader::Print;
 
@@ -40,7 +40,7 @@ fn replay(
     out: &mut [u8],
     chunk: &mut [u8],
 ) -> Print
-    requires { ⌜ Sized (desk (now block) (now line) (now bytes) (now command)) ⌝ }
+    requires { ⌜ LentSizes (desk (now block) (now line) (now bytes) (now command)) ⌝ }
     requires { ⌜ (length (now out) ≡ outBytes) × (length (now chunk) ≡ chunkBytes) ⌝ }
     ensures { λ r. ⌜ ((input : List ℕ) × ((length input ≡ r .got) × Printed (r .whole) (r .ended) replayText input (now (tally .entry)) (now (tally .exit)))) ⌝ }
 {

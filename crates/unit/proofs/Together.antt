@@ -29,7 +29,7 @@ use Rattle.block_write.proofs.Handed.{length-handed}
 use Rattle.view.specs.Looks.{leaves}
 use Rattle.view.proofs.Refusals.{answers}
 use Rattle.unit.specs.Calls.{packetsAnswered, writeAnswer, writeBlock, writeCommand, screenAnswer, screenBlock}
-use Rattle.unit.specs.Together.{commandIn, commandOf, Performed, doneWrite, doneScreen, performed, repliesOf, bufferAfter, sightOf, performedBy}
+use Rattle.unit.specs.Together.{commandIn, commandHeld, Performed, doneWrite, doneScreen, performed, repliesOf, bufferAfter, sightOf, performedBy}
 use Rattle.unit.proofs.Writes.{answer-whole}
 
 -- ---- one call
@@ -99,7 +99,7 @@ unfolding commandIn packetsAnswered packetsTold handed
 held-command none buffer w = refl
 held-command (some d) buffer w = ap (λ (l : List ℕ). given (some l)) (take-at d (drop (length d) buffer) (16 * (length d / 16)) (omega (arith, w .packets)))
 
-held-commands : (b buffer : List ℕ) (l : List Act) → valid b ≡ true → map commandOf (repliesOf (calls b l .answers) buffer) ≡ map given (calls b l .answers)
+held-commands : (b buffer : List ℕ) (l : List Act) → valid b ≡ true → map commandHeld (repliesOf (calls b l .answers) buffer) ≡ map given (calls b l .answers)
 unfolding calls repliesOf calledWrite calledScreen
 held-commands b buffer [] k = refl
 held-commands b buffer (write v ∷ l) k =
@@ -110,9 +110,9 @@ held-commands b buffer (screen x ∷ l) k = held-commands (seenBlock b x) buffer
 
 -- each write's answer is its command's bytes: what the caller holds after it is what the rules answer
 pub replies-commands : (b buffer : List ℕ) (l : List Act) → valid b ≡ true → storeBytes ≤ length buffer
-    → map commandOf (performed b buffer l .replies) ≡ map given (calls b l .answers)
+    → map commandHeld (performed b buffer l .replies) ≡ map given (calls b l .answers)
 unfolding performedBy
-replies-commands b buffer l k h = ap (λ (o : Performed). map commandOf (o .replies)) (performed-calls b buffer l k h) ∙ held-commands b buffer l k
+replies-commands b buffer l k h = ap (λ (o : Performed). map commandHeld (o .replies)) (performed-calls b buffer l k h) ∙ held-commands b buffer l k
 
 -- demand 3: a valid block, a buffer with room, and two logs with the same writes and the same screens in which each fixed write has equally
 -- many screens before it: the same block, the same buffer after each write and at the end, and the same answer to each write and to each screen

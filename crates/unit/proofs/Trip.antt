@@ -35,7 +35,7 @@ use Rattle.order.specs.Blocks.{Called}
 use Rattle.order.proofs.BlockOrder.{saved, calls-saved, run-good}
 use Rattle.block_write.specs.Bytes.{handed, packetsTold}
 use Rattle.unit.specs.Calls.{packetsAnswered}
-use Rattle.unit.specs.Together.{Reply, commandOf, Performed, performed, repliesOf, bufferAfter, performedBy}
+use Rattle.unit.specs.Together.{Reply, commandHeld, Performed, performed, repliesOf, bufferAfter, performedBy}
 use Rattle.unit.specs.Trip.{ones, risesIn, risen, sentTo, returned}
 use Rattle.unit.proofs.Allowed.{Allowed, allowed-performed}
 use Rattle.unit.proofs.Together.{performed-calls, replies-commands}
@@ -259,11 +259,11 @@ module _ (b buffer c : List ℕ) (k : valid b ≡ true) (room : storeBytes ≤ l
       n
 
   -- the command that the caller holds after each: exactly one write answers, and it answers c
-  pub trip-commands : malformed c ≡ false → map commandOf (returned b buffer c .replies) ≡ map given (replicate (260 * packetsIn c - 2) none ++ (some c ∷ none ∷ []))
+  pub trip-commands : malformed c ≡ false → map commandHeld (returned b buffer c .replies) ≡ map given (replicate (260 * packetsIn c - 2) none ++ (some c ∷ none ∷ []))
   unfolding saved
   trip-commands t =
       let l : List Act = map write (pulsesOf (packetsIn c) c) in
-      ap (λ (o : Performed). map commandOf (o .replies)) (sym (calls-round-trip t))
+      ap (λ (o : Performed). map commandHeld (o .replies)) (sym (calls-round-trip t))
       ∙ replies-commands b buffer l k room
       ∙ ap (λ (o : Called). map given (o .answers)) (calls-saved b k l)
       ∙ ap (λ (o : Outcome). map given (o .answers)) (unit-round-trip (load b) c t bytes (valid-good b k .port .store) free)

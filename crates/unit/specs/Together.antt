@@ -23,8 +23,8 @@ commandIn (refused n) buffer = refused n
 commandIn (given none) buffer = given none
 commandIn (given (some n)) buffer = given (some (take (16 * n) buffer))
 
-abbrev pub commandOf : Reply → Answer (Option (List ℕ))
-commandOf r = commandIn (r .answer) (r .buffer)
+abbrev pub commandHeld : Reply → Answer (Option (List ℕ))
+commandHeld r = commandIn (r .answer) (r .buffer)
 
 -- the block and the buffer at the end, and in order what each write left with its caller and what each screen was answered
 pub record Performed : Type 0 where

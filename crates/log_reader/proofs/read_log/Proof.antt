@@ -8,7 +8,7 @@ use native.Mathlib.Omega.{arith}
 use lib.ListN.{length}
 use Rattle.log.specs.Steps.{begun, desk}
 use Rattle.log.specs.declared.Reading.{Reading}
-use Rattle.log_reader.specs.Fed.{Sized, chunkBytes, outBytes, mostBytes}
+use Rattle.log_reader.specs.Fed.{LentSizes, chunkBytes, outBytes, mostBytes}
 use Rattle.log_reader.specs.Read.{point}
 use Rattle.log_reader.proofs.Outcomes.{SoFar, so-far-none, so-far-on, so-far-ends, so-far-stops, boot-fit, sized-kept}
 use Rattle.log_reader.proofs.read_log.Statement.{statement}
@@ -18,7 +18,7 @@ abbrev Inv-loop : tie.InvT-loop
 Inv-loop tally₀ block₀ line₀ bytes₀ command₀ out₀ chunk₀ quiet read₀ turns₀ t12 tally block line bytes command out chunk read turns =
     SoFar quiet (point begun (desk block₀ line₀ bytes₀ command₀) tally₀) read (point (read .reading) (desk block line bytes command) tally)
     × ((read .reading .number + turns * chunkBytes ≤ 4611686018427387905)
-    × ((read .got + turns * chunkBytes ≤ mostBytes) × (Sized (desk block line bytes command) × ((length out ≡ outBytes) × (length chunk ≡ chunkBytes)))))
+    × ((read .got + turns * chunkBytes ≤ mostBytes) × (LentSizes (desk block line bytes command) × ((length out ≡ outBytes) × (length chunk ≡ chunkBytes)))))
 
 abbrev μ-loop : tie.MeasureT-loop
 μ-loop tally₀ block₀ line₀ bytes₀ command₀ out₀ chunk₀ quiet read₀ turns₀ t12 tally block line bytes command out chunk read turns = turns
