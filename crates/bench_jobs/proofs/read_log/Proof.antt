@@ -8,15 +8,14 @@ use borrow.Author.Needs.{needs}
 use lib.ListN.{length, take, drop}
 use Rattle.log.specs.Steps.{desk, left}
 use Rattle.log_reader.specs.Fed.{outBytes}
-use Rattle.log_reader.proofs.Feeding.{boot-fit}
 use Rattle.log.specs.declared.Reading.{Reading}
-use Rattle.bench_jobs.proofs.Chunks.{Stands, part-is, stands-on, ends-within, left-falls}
+use Rattle.bench_jobs.proofs.Chunks.{Within, begun-fit, part-is, within-on, ends-within, left-falls}
 use Rattle.bench_jobs.proofs.read_log.Statement.{statement}
 use Rattle.bench_jobs.proofs.read_log.Tie as tie
 
 abbrev Inv-loop : tie.InvT-loop
 Inv-loop input block₀ line₀ bytes₀ command₀ text₀ keep reading₀ at₀ n₀ block line bytes command text reading at n =
-    Stands (length input) (length text₀) reading (desk block line bytes command) at n
+    Within (length input) (length text₀) reading (desk block line bytes command) at n
     × ((length text₀ < 18446744073709551616) × ((length block ≡ length block₀) × ((length line ≡ length line₀) × ((length bytes ≡ length bytes₀) × ((length command ≡ length command₀) × (length text ≡ length text₀))))))
 
 abbrev μ-loop : tie.MeasureT-loop
@@ -68,7 +67,7 @@ loop-holds c =
     let start = c .before .before .before .before .before .before .before .before .before .before .before in
     let b = c .before .before .before .post-boot in (
       record {
-        fit = boot-fit (desk (now (start .args .block)) (now (start .args .line)) (now (start .args .bytes)) (now (start .args .command))) _ _ (start .pre .0) (b .ensures) (c .begin .ensures);
+        fit = begun-fit (desk (now (start .args .block)) (now (start .args .line)) (now (start .args .bytes)) (now (start .args .command))) _ _ (start .pre .0) (b .ensures) (c .begin .ensures);
         within = omega arith;
         numbered = omega (arith, ap (λ (r : Reading). r .number) (c .begin .ensures));
         roomy = omega arith;
@@ -145,7 +144,7 @@ loop-again c =
     let a = c .before .before .before .before .before .before .before .before .before .before .before .before .before .before .before .before .before .before .before .before .before .before .before .loop in
     let f = c .before .before .before .before .before .before .before .before .before .before .before .before .before .fill in
     let l = a .inv .1 .1 in (
-      stands-on (length (input b)) _ (a .reading) (desk (a .block) (a .line) (a .bytes) (a .command)) (a .at) (a .n) _ _ (f .result) _ _ (a .inv .0) (f .ensures) (omega (arith, chunk-long b, long b)) (c .kept .result) (c .kept .ensures) (omega (arith, out-long b, room b, l .1 .1 .1 .1)),
+      within-on (length (input b)) _ (a .reading) (desk (a .block) (a .line) (a .bytes) (a .command)) (a .at) (a .n) _ _ (f .result) _ _ (a .inv .0) (f .ensures) (omega (arith, chunk-long b, long b)) (c .kept .result) (c .kept .ensures) (omega (arith, out-long b, room b, l .1 .1 .1 .1)),
       (a .inv .1 .0, (f .kept .1 .0 ∙ l .0, (f .kept .1 .1 .0 ∙ l .1 .0, (f .kept .1 .1 .1 .0 ∙ l .1 .1 .0, (f .kept .1 .1 .1 .1 .0 ∙ l .1 .1 .1 .0, search needs))))),
     )
 
