@@ -29,12 +29,13 @@ use Rattle.layout.proofs.Made.{made-of}
 use Rattle.rules.specs.Carry.{withPads, carried}
 use Rattle.rules.specs.Write.{meant, answer}
 use Rattle.rules.proofs.Keeps.{WholeIf, answered-whole, good-stepped, good-written}
-use Rattle.block_write.specs.Bytes.{linesOf, putReceiver, putLines, handed, packetsTold, taken, settled}
-use Rattle.block_write.proofs.Steps.{port-made, length-receiver, packets-taken}
-use Rattle.block_write.proofs.Handed.{none-carried, front}
+use Rattle.block_port.specs.Bytes.{linesOf, putReceiver, putLines, handed, packetsTold, taken, settled}
+use Rattle.block_port.proofs.Steps.{port-made, length-receiver, packets-taken}
+use Rattle.block_port.proofs.Handed.{none-carried, front}
 use Rattle.block_command.specs.Carrying.{carriedBlock}
 use Rattle.block_command.proofs.Chain.{carried-good}
-use Rattle.block_writes.specs.Play.{Played, played, handedOver, commandOf, ranTo, ranUnit}
+use Rattle.block_writes.specs.Play.{Played, played}
+use Rattle.block_writes.specs.Ran.{handedOver, commandOf, ranTo, ranUnit}
 use Rattle.block_writes.proofs.Plays.{further, none-written, one-written, one-stepped, mk, plays}
 
 -- ---- a good unit may run

@@ -6,7 +6,7 @@ use Prim.Native.Nat.{ℕ, zero, suc, _-_, _*_, _≤_}
 use native.Mathlib.Omega.{arith}
 use lib.ListN.{take, replicate}
 use Rattle.parts.specs.Parts.{storeBytes}
-use Rattle.block_write.specs.Bytes.{taken, settled}
+use Rattle.block_port.specs.Bytes.{taken, settled}
 use Rattle.receiver.specs.Lines.{pulseOf, indexed}
 use Rattle.receiver.specs.Port.{stepAt, filedAt, answered, wrote}
 use Rattle.receiver.specs.Store.{packetsOf}
@@ -14,10 +14,13 @@ use Rattle.receiver.proofs.Sound.{good-pulse}
 use Rattle.receiver_run.specs.Run.{Ended, lined, onward, runs, Ready}
 use Rattle.receiver_run.proofs.Turns.{ready-lined}
 use Rattle.receiver_run.proofs.Hears.{within, none-told, one-told}
+use Rattle.layout.specs.Good.{Good}
 use Rattle.layout.specs.Sgb.{Sgb}
 use Rattle.rules.specs.Carry.{withPads, carried, carriedGame, carriedSnes, plainly}
+use Rattle.rules.proofs.Keeps.{WholeIf, good-written, answered-whole}
 use Rattle.rules.specs.Write.{meant, carries, advanced, stepped, written, answer}
-use Rattle.block_writes.specs.Play.{Played, stop, played, handedOver, commandOf, ranUnit, ranTo}
+use Rattle.block_writes.specs.Play.{Played, stop, played}
+use Rattle.block_writes.specs.Ran.{handedOver, commandOf, ranUnit, ranTo}
 
 -- the run from the i-th write on, as what was played
 abbrev by : Sgb → ℕ → Ended → Played
@@ -112,3 +115,30 @@ plays u ws r =
     let d : Ended = runs (u .game .pads) 0 (u .game .index) (u .port) ws in
     let k : d .at - 0 ≡ d .at = omega arith in
     plays-from 0 u ws r ∙ ap (λ (n : ℕ). mk (carried (meant (commandOf d)) (ranUnit u d)) n (commandOf d)) k
+
+-- ---- one write alone
+
+pub played-write : (u : Sgb) (v : ℕ) → played u (v ∷ []) ≡ mk (written u v) 1 (answer u v)
+unfolding played
+played-write u v = go (answer u v)
+  where
+    go : (o : Option (List ℕ)) → stop o (written u v) (mk (written u v) 0 none) ≡ mk (written u v) 1 o
+    go none = unfold stop in refl
+    go (some c) = unfold stop in refl
+
+-- ---- what is played
+
+-- a good unit stays good, and a command that is told is whole
+pub record Kept (p : Played) : Type 0 where
+  pub good : Good (p .unit)
+  pub whole : WholeIf (p .told)
+
+kept-stop : (o : Option (List ℕ)) (u : Sgb) (p : Played) → WholeIf o → Good u → Kept p → Kept (stop o u p)
+unfolding stop
+kept-stop none u p w g k = record { good = k .good; whole = k .whole }
+kept-stop (some c) u p w g k = record { good = g; whole = w }
+
+pub kept-played : (u : Sgb) (ws : List ℕ) → Good u → Kept (played u ws)
+unfolding played answer
+kept-played u [] g = record { good = g; whole = tt }
+kept-played u (v ∷ vs) g = kept-stop (answer u v) (written u v) (played (written u v) vs) (answered-whole (u .port) v (g .port)) (good-written u v g) (kept-played (written u v) vs (good-written u v g))

@@ -1,20 +1,22 @@
-// Writes in a row on a valid block, up to the next command: the receiver is held in locals, and goes back into the block once, where a
-// command is complete or the writes end. Document 01, A write. The meaning is `played` in specs/Play.
+// Writes on a valid block: many in a row up to the next command, or one alone. The receiver is held in locals, and goes back into the block
+// once, where a command is complete or the writes end. Document 01, A write. The meaning is `played` in specs/Play, and the rules of a write.
 ghost use mathlib.Core.Path.{_≡_};
 ghost use Prim.Native.Nat.{_≤_};
 ghost use lib.ListN.{length};
 ghost use Rattle.parts.specs.Parts.{storeBytes};
 ghost use Rattle.layout.specs.Block.{load, save};
 ghost use Rattle.layout.specs.Valid.{Valid};
-ghost use Rattle.block_write.specs.Bytes.{handed, packetsTold};
+ghost use Rattle.rules.specs.Write.{written, answer};
+ghost use Rattle.block_port.specs.Bytes.{handed, packetsTold};
 ghost use Rattle.receiver_run.specs.Run.{runs, portOf, endedOf, Ready};
-ghost use Rattle.block_writes.specs.Play.{played, ranTo, ranUnit, handedOver, commandOf};
+ghost use Rattle.block_writes.specs.Play.{played};
+ghost use Rattle.block_writes.specs.Ran.{ranTo, ranUnit, handedOver, commandOf};
 use block_command::carry_front;
-use block_write::hand_over;
-use block_write::load_lines;
-use block_write::load_receiver;
-use block_write::save_lines;
-use block_write::save_receiver;
+use block_port::hand_over;
+use block_port::load_lines;
+use block_port::load_receiver;
+use block_port::save_lines;
+use block_port::save_receiver;
 use receiver::Receiver;
 use receiver_run::Lines;
 use receiver_run::Ran;
@@ -42,7 +44,19 @@ pub fn play(block: &mut [u8], writes: &[u8], command: &mut [u8]) -> Played
     p
 }
 
-// The same up to where the command is carried out.
+// One write alone: the packets of the command that it completes, or 0.
+pub fn write(block: &mut [u8], value: u8, command: &mut [u8]) -> u8
+    requires { ⌜ Valid (now block) × (storeBytes ≤ length (now command)) ⌝ }
+    ensures { λ r. ⌜ r ≡ packetsTold (answer (load (now (block .entry))) value) ⌝ }
+    ensures { λ _. ⌜ now (block .exit) ≡ save (written (load (now (block .entry))) value) ⌝ }
+    ensures { λ _. ⌜ now (command .exit) ≡ handed (answer (load (now (block .entry))) value) (now (command .entry)) ⌝ }
+{
+    let one = [value];
+    let p = play(block, &one, command);
+    p.packets
+}
+
+// Writes in a row, up to where the command is carried out.
 fn play_port(block: &mut [u8], writes: &[u8], command: &mut [u8]) -> Played
     requires { ⌜ Valid (now block) × (storeBytes ≤ length (now command)) ⌝ }
     ensures { λ r. ⌜ r .at ≡ ranTo (load (now (block .entry))) (now (writes .entry)) .at ⌝ }

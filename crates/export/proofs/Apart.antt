@@ -20,7 +20,7 @@ use Rattle.parts.specs.Parts.{blockBytes, storeBytes, captureBytes}
 use Rattle.layout.specs.Valid.{valid}
 use Rattle.view.specs.Refusal.{refusing}
 use Rattle.view.specs.Looks.{modeOf, backdropAnswer, shadeAnswer, entryAnswer, borderAnswer, rowAnswer, pictureAnswer}
-use Rattle.unit.specs.Calls.{writeAnswer, screenAnswer}
+use Rattle.unit.specs.Calls.{withRoom, writeAnswer, screenAnswer}
 use Rattle.export.specs.Coded.{coded, value, optional, truth}
 use Rattle.export.specs.Parts.{rgbNumber}
 
@@ -110,7 +110,7 @@ refusing-numbered b a f =
     test-numbered (eqb (length b) blockBytes) _ 1 (test-numbered (valid b) a 2 f (lit≤ tt) (lit≤ tt)) (lit≤ tt) (lit≤ tt)
 
 pub write-numbered : (b : List ℕ) (v : ℕ) (command : List ℕ) → Numbered (writeAnswer b v command)
-unfolding writeAnswer
+unfolding writeAnswer withRoom
 write-numbered b v command = refusing-numbered b _ (test-numbered (leb storeBytes (length command)) _ 6 (given-numbered _) (lit≤ tt) (lit≤ tt))
 
 pub screen-numbered : (b x : List ℕ) → Numbered (screenAnswer b x)

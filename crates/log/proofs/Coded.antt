@@ -5,7 +5,7 @@ use Prim.Native.Nat.{ℕ, zero, suc, _+_, _-_, _*_, _≤_, _<_}
 use native.Mathlib.Omega.{arith}
 use lib.ListN.{length, take, drop, length-take, take-append-drop, drop-of-length-le}
 use Rattle.layout.specs.Block.{load}
-use Rattle.block_write.specs.Bytes.{packetsTold}
+use Rattle.block_port.specs.Bytes.{packetsTold}
 use Rattle.block_writes.specs.Play.{played}
 use Rattle.layout.specs.Block.{save}
 use Rattle.bits.specs.Answer.{given}

@@ -17,7 +17,7 @@ use Rattle.layout.proofs.Goods.{valid-good, saved-valid}
 use Rattle.rules.specs.Write.{written, answer}
 use Rattle.rules.specs.Screen.{screened}
 use Rattle.rules.proofs.Keeps.{good-screened}
-use Rattle.block_write.proofs.Handed.{length-handed}
+use Rattle.block_port.proofs.Handed.{length-handed}
 use Rattle.block_writes.specs.Play.{Played, stop, played}
 use Rattle.log_line.specs.Line.{Meaning, writes, screen, refused}
 use Rattle.log_line.specs.Lines.{meaningMarked}
@@ -26,7 +26,7 @@ use Rattle.log_line.specs.Calls.{filled}
 use Rattle.log_line.proofs.Splitting.{lf-within, took-fits, length-took}
 use Rattle.log.specs.Steps.{Desk, Stepped, pending, playedTo, ranOn, endedAs, ended, took, tookOn, stepped, holding, withLine, left, Fit}
 use Rattle.log.specs.declared.Reading.{Reading}
-use Rattle.log.proofs.Tells.{Kept, kept-played}
+use Rattle.block_writes.proofs.Plays.{Kept, kept-played}
 use Rattle.log.proofs.Takes.{Fits, fits-marked}
 
 -- ---- what is played

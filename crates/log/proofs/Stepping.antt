@@ -20,11 +20,11 @@ use Rattle.layout.specs.Block.{load}
 use Rattle.layout.specs.Valid.{Valid}
 use Rattle.layout.proofs.Goods.{valid-good}
 use Rattle.rules.proofs.Keeps.{WholeIf}
-use Rattle.block_write.specs.Bytes.{packetsTold}
+use Rattle.block_port.specs.Bytes.{packetsTold}
 use Rattle.block_writes.specs.Play.{played}
 use Rattle.log.specs.Texts.{shown}
 use Rattle.log.specs.Steps.{Desk, desk, Stepped, answerOf, toldOf, ranOn, playedTo, pending, endedAs, ended, took, tookOn, stepped, holding, withLine, toldBy, ToldFits, eventsOn, isRefused, filledBy, Said}
-use Rattle.log.proofs.Tells.{kept-played}
+use Rattle.block_writes.proofs.Plays.{kept-played}
 use Rattle.log.specs.declared.Reading.{Reading}
 use Rattle.log.specs.declared.Step.{Step}
 use Rattle.log.specs.declared.Filled.{Filled}

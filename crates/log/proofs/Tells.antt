@@ -12,9 +12,10 @@ use Rattle.layout.specs.Good.{Good}
 use Rattle.layout.specs.Sgb.{Sgb}
 use Rattle.layout.proofs.Goods.{valid-good, good-back}
 use Rattle.rules.specs.Write.{written, answer}
-use Rattle.rules.proofs.Keeps.{WholeIf, good-written, answered-whole}
-use Rattle.block_write.specs.Bytes.{handed, packetsTold}
+use Rattle.rules.proofs.Keeps.{WholeIf}
+use Rattle.block_port.specs.Bytes.{handed, packetsTold}
 use Rattle.block_writes.specs.Play.{Played, stop, played}
+use Rattle.block_writes.proofs.Plays.{kept-played}
 use Rattle.log_line.specs.Lines.{markedFrom, meaningMarked}
 use Rattle.log_line.specs.Split.{heldAs}
 use Rattle.log.specs.Events.{Event, completed, answerEvents, writeEvents, afterWrites, eventsFrom, afterLines}
@@ -50,22 +51,7 @@ run-ends u (v ∷ vs) = go (answer u v) (run-ends (written u v) vs)
     go none e = unfold stop in e
     go (some c) e = unfold stop in refl
 
--- a good unit stays good, and a command that is told is whole
-pub record Kept (p : Played) : Type 0 where
-  pub good : Good (p .unit)
-  pub whole : WholeIf (p .told)
-
-kept-stop : (o : Option (List ℕ)) (u : Sgb) (p : Played) → WholeIf o → Good u → Kept p → Kept (stop o u p)
-unfolding stop
-kept-stop none u p w g k = record { good = k .good; whole = k .whole }
-kept-stop (some c) u p w g k = record { good = g; whole = w }
-
-pub kept-played : (u : Sgb) (ws : List ℕ) → Good u → Kept (played u ws)
-unfolding played answer
-kept-played u [] g = record { good = g; whole = tt }
-kept-played u (v ∷ vs) g = kept-stop (answer u v) (written u v) (played (written u v) vs) (answered-whole (u .port) v (g .port)) (good-written u v g) (kept-played (written u v) vs (good-written u v g))
-
--- it stands in the buffer
+-- a command that is told stands in the buffer
 told-buffer : (o : Option (List ℕ)) (r : Reading) (command : List ℕ) → WholeIf o → toldBy (toldOf (packetsTold o)) r (handed o command) ≡ answerEvents o
 unfolding answerEvents handed packetsTold
 told-buffer none r command w = unfold toldOf toldBy in refl

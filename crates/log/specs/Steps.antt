@@ -14,7 +14,7 @@ use Rattle.parts.specs.Parts.{captureBytes, storeBytes}
 use Rattle.layout.specs.Sgb.{Sgb}
 use Rattle.layout.specs.Valid.{Valid}
 use Rattle.rules.specs.Screen.{screened}
-use Rattle.block_write.specs.Bytes.{handed, packetsTold}
+use Rattle.block_port.specs.Bytes.{handed, packetsTold}
 use Rattle.block_writes.specs.Play.{Played, played}
 use Rattle.log_line.specs.Line.{lineDigits, Meaning, writes, screen, refused}
 use Rattle.log_line.specs.Lines.{markedFrom, meaningMarked}

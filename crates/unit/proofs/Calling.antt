@@ -2,49 +2,41 @@
 use mathlib.Core.Path.{_≡_, refl, sym, ap, _∙_}
 use mathlib.Core.Bool.{cond}
 use mathlib.Core.List.{List}
-use mathlib.Core.Option.{Option}
 use Prim.Native.Nat.{ℕ, _<_, _≤_}
 use borrow.Author.Tests.{ne-eqb, eq-eqb, le-leb, lt-leb}
 use lib.ListN.{length}
-use Rattle.pulses.specs.Answer.{refused, given}
+use Rattle.pulses.specs.Answer.{Answer, refused, given}
 use Rattle.transfer.specs.declared.pending.Landed.{Landed}
 use Rattle.transfer.specs.Pending.{landedOf}
 use Rattle.parts.specs.Parts.{blockBytes, storeBytes, captureBytes}
 use Rattle.layout.specs.Block.{load, save}
 use Rattle.layout.specs.Fresh.{new, postBoot}
 use Rattle.layout.specs.Valid.{Valid}
-use Rattle.rules.specs.Write.{written, answer}
 use Rattle.rules.specs.Screen.{screened, landing}
-use Rattle.block_write.specs.Bytes.{handed}
+use Rattle.view.specs.Looks.{leaves}
 use Rattle.view.proofs.Refusals.{answers, keeps, draws}
-use Rattle.unit.specs.Calls.{packetsAnswered, writeAnswer, writeBlock, writeCommand, screenAnswer, screenBlock, freshAnswer, newBlock, postBootBlock}
+use Rattle.unit.specs.Calls.{withRoom, screenAnswer, screenBlock, freshAnswer, newBlock, postBootBlock}
 
--- ---- a write
+-- ---- a call that is lent a command buffer: it answers a, and leaves the block and the buffer, or refuses
 
-module _ (b : List ℕ) (v : ℕ) (command : List ℕ) where
-  pub write-refused : (n : ℕ) → refused n ≡ writeAnswer b v command
-      → (refused n ≡ writeAnswer b v command) × ((b ≡ writeBlock b v command) × (command ≡ writeCommand b v command))
-  write-refused n e = unfold writeBlock writeCommand in (e, (keeps (writeAnswer b v command) _ b e .1, keeps (writeAnswer b v command) _ command e .1))
+module _ {A : Type 0} (b command : List ℕ) (a : A) (block buffer : List ℕ) where
+  abbrev left : Answer A → List ℕ → List ℕ → Type 0
+  left told m c = (told ≡ withRoom b command a) × ((m ≡ leaves (withRoom b command a) block b) × (c ≡ leaves (withRoom b command a) buffer command))
 
-  pub write-short : Valid b → length command < storeBytes → refused 6 ≡ writeAnswer b v command
-  write-short k h =
-      unfold writeAnswer in
-      sym (ap (λ t. cond t (given (packetsAnswered (answer (load b) v))) (refused 6)) (lt-leb storeBytes (length command) h)) ∙ answers b _ k
+  pub room-refused : (n : ℕ) → refused n ≡ withRoom b command a → left (refused n) b command
+  room-refused n e = (e, (keeps (withRoom b command a) block b e .1, keeps (withRoom b command a) buffer command e .1))
 
-  write-is : (a : Option ℕ) → Valid b → storeBytes ≤ length command → packetsAnswered (answer (load b) v) ≡ a → given a ≡ writeAnswer b v command
-  write-is a k h e =
-      unfold writeAnswer in
-      ap given (sym e)
-      ∙ sym (ap (λ t. cond t (given (packetsAnswered (answer (load b) v))) (refused 6)) (le-leb storeBytes (length command) h)) ∙ answers b _ k
+  pub room-short : Valid b → length command < storeBytes → left (refused 6) b command
+  room-short k h =
+      room-refused 6 (unfold withRoom in sym (ap (λ t. cond t (given a) (refused 6)) (lt-leb storeBytes (length command) h)) ∙ answers b _ k)
 
-  pub write-given : (a : Option ℕ) (block buffer : List ℕ) → Valid b → storeBytes ≤ length command → packetsAnswered (answer (load b) v) ≡ a
-      → block ≡ save (written (load b) v) → buffer ≡ handed (answer (load b) v) command
-      → (given a ≡ writeAnswer b v command) × ((block ≡ writeBlock b v command) × (buffer ≡ writeCommand b v command))
-  write-given a block buffer k h e p q =
-      unfold writeBlock writeCommand in (
-        write-is a k h e,
-        (draws (writeAnswer b v command) _ b block (write-is a k h e) p .1, draws (writeAnswer b v command) _ command buffer (write-is a k h e) q .1),
-      )
+  room-is : Valid b → storeBytes ≤ length command → given a ≡ withRoom b command a
+  room-is k h = unfold withRoom in sym (ap (λ t. cond t (given a) (refused 6)) (le-leb storeBytes (length command) h)) ∙ answers b _ k
+
+  pub room-given : (x : A) (m c : List ℕ) → Valid b → storeBytes ≤ length command → x ≡ a → m ≡ block → c ≡ buffer → left (given x) m c
+  room-given x m c k h e p q =
+      let is : given x ≡ withRoom b command a = ap given e ∙ room-is k h in
+      (is, (draws (withRoom b command a) block b m is p .1, draws (withRoom b command a) buffer command c is q .1))
 
 -- ---- a screen
 

@@ -2,7 +2,8 @@
 -- What that means and its one law stand in `bits` (specs/ and proofs/Determined). That an enum's cases are told apart stands with the enum:
 -- here, in `view` and `colour` (proofs/Told) and in `pulses` (proofs/Encodes). Next door: `log_line::parse` and the calls for C, each in the
 -- proofs/Determined of its crate.
-use mathlib.Core.Path.{refl, ap}
+use mathlib.Core.Path.{_≡_, refl, ap, subst, subst⁻¹}
+use mathlib.Core.Option.{Option, IsSome, Option·getD}
 use mathlib.Core.Bool.{Bool}
 use mathlib.Core.List.{List}
 use Prim.Native.Nat.{ℕ}
@@ -14,7 +15,7 @@ use Rattle.colour.specs.declared.Rgb8.{Rgb8}
 use Rattle.colour.proofs.Told.{word-of}
 use Rattle.pulses.specs.declared.Encoded.{Encoded}
 use Rattle.pulses.specs.declared.Conformance.{Conformance}
-use Rattle.pulses.specs.Answer.{encodedAnswer, verdictAnswer}
+use Rattle.pulses.specs.Answer.{Answer, encodedAnswer, verdictAnswer}
 use Rattle.pulses.proofs.Encodes.{one-encoded, one-verdict}
 use Rattle.pulses.proofs.encode.Reads as encode
 use Rattle.pulses.proofs.verdict.Reads as verdict
@@ -42,11 +43,16 @@ use Rattle.view.proofs.row.Reads as row
 use Rattle.view.proofs.picture.Reads as picture
 use Rattle.unit.specs.declared.Written.{Written}
 use Rattle.unit.specs.declared.Written.the-variants as W
+use Rattle.unit.specs.declared.Played.{Played}
+use Rattle.unit.specs.declared.Played.the-variants as P
 use Rattle.unit.specs.declared.Shown.{Shown}
 use Rattle.unit.specs.declared.Shown.the-variants as S
-use Rattle.unit.specs.Answers.{writtenTold, shownTold}
+use Rattle.unit.specs.Answers.{writtenTold, playedTold, shownTold}
+use Rattle.unit.specs.Plays.{Taken}
+use Rattle.unit.specs.Pieces.{takenOf}
 use Rattle.transfer.proofs.Pendings.{landed-once}
 use Rattle.unit.proofs.write_joypad.Reads as write-joypad
+use Rattle.unit.proofs.play.Reads as play
 use Rattle.unit.proofs.update_screen.Reads as update-screen
 use Rattle.unit.proofs.new.Reads as new
 use Rattle.unit.proofs.post_boot.Reads as post-boot
@@ -66,6 +72,27 @@ one-written (W.Command m) (W.Refused n) e = cc
 one-written (W.Command m) W.Nothing e = cc
 one-written (W.Command m) (W.Command n) e = cc
 
+abbrev writesIn : Answer Taken → ℕ
+writesIn a = takenOf a .writes
+
+abbrev packetsIn : Answer Taken → Option ℕ
+packetsIn a = takenOf a .packets
+
+one-played : Once playedTold
+unfolding playedTold takenOf
+one-played (P.Refused m) (P.Refused n) e = cc
+one-played (P.Refused m) (P.Took n) e = cc
+one-played (P.Refused m) (P.Command n k) e = cc
+one-played (P.Took m) (P.Refused n) e = cc
+one-played (P.Took m) (P.Took n) e = ap P.Took (ap writesIn e)
+one-played (P.Took m) (P.Command n k) e = absurd (subst⁻¹ IsSome (ap packetsIn e) tt)
+one-played (P.Command m j) (P.Refused n) e = cc
+one-played (P.Command m j) (P.Took n) e = absurd (subst IsSome (ap packetsIn e) tt)
+one-played (P.Command m j) (P.Command n k) e =
+    let x : m ≡ n = ap writesIn e in
+    let y : j ≡ k = ap (λ (o : Option ℕ). Option·getD o 0) (ap packetsIn e) in
+    λ t. P.Command (x t) (y t)
+
 one-shown : Once shownTold
 unfolding shownTold
 one-shown (S.Refused m) (S.Refused n) e = cc
@@ -78,6 +105,10 @@ one-shown (S.Took m) (S.Took n) e = ap S.Took (landed-once m n (cc))
 -- the answer, the block, the buffer
 pub write-joypad-determined : (k : _) → Determined (Written × List ℕ × List ℕ) (write-joypad.Learnt k) (λ r e. (r, now (e .0), now (e .1 .1 .0)))
 write-joypad-determined k a r s e f p q = λ t. (one writtenTold one-written r s (p .0) (q .0) t, same _ _ (p .1 .0) (q .1 .0) t, same _ _ (p .1 .1) (q .1 .1) t)
+
+-- the answer, the block, the buffer
+pub play-determined : (k : _) → Determined (Played × List ℕ × List ℕ) (play.Learnt k) (λ r e. (r, now (e .0), now (e .1 .1 .0)))
+play-determined k a r s e f p q = λ t. (one playedTold one-played r s (p .0) (q .0) t, same _ _ (p .1 .0) (q .1 .0) t, same _ _ (p .1 .1) (q .1 .1) t)
 
 -- the answer, the block
 pub update-screen-determined : (k : _) → Determined (Shown × List ℕ) (update-screen.Learnt k) (λ r e. (r, now (e .0)))

@@ -2,6 +2,8 @@ pub mod Allowed
 pub mod Calling
 pub mod Determined
 pub mod Examples
+pub mod Pieces
+pub mod Playing
 pub mod Ties
 pub mod Together
 pub mod Trip

@@ -14,7 +14,7 @@ use Rattle.screen.specs.Packed.{pairAt, cellAt}
 use Rattle.pulses.specs.Bytes.{malformed}
 use Rattle.pulses.specs.Bytes as pulses
 use Rattle.pulses.proofs.Commands.{formed}
-use Rattle.block_write.specs.Bytes.{packetsTold}
+use Rattle.block_port.specs.Bytes.{packetsTold}
 
 -- the picture finds a cell by its number, the commands by its row and column: twenty cells fill five bytes
 pub cell-alike : (b : List ℕ) (x y : ℕ) → cellAt b x y ≡ map.packedCell b x y

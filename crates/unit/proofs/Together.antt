@@ -24,11 +24,11 @@ use Rattle.order.specs.Log.{Act, write, screen, accepts, seen, Aligned}
 use Rattle.order.specs.Log as log
 use Rattle.order.specs.Blocks.{calledWrite, calledScreen, writtenBlock, seenBlock, calls}
 use Rattle.order.proofs.BlockOrder.{block-order}
-use Rattle.block_write.specs.Bytes.{handed, packetsTold}
-use Rattle.block_write.proofs.Handed.{length-handed}
+use Rattle.block_port.specs.Bytes.{handed, packetsTold}
+use Rattle.block_port.proofs.Handed.{length-handed}
 use Rattle.view.specs.Looks.{leaves}
 use Rattle.view.proofs.Refusals.{answers}
-use Rattle.unit.specs.Calls.{packetsAnswered, writeAnswer, writeBlock, writeCommand, screenAnswer, screenBlock}
+use Rattle.unit.specs.Calls.{packetsAnswered, withRoom, writeAnswer, writeBlock, writeCommand, screenAnswer, screenBlock}
 use Rattle.unit.specs.Together.{commandIn, commandHeld, Performed, doneWrite, doneScreen, performed, repliesOf, bufferAfter, sightOf, performedBy}
 use Rattle.unit.proofs.Writes.{answer-whole}
 
@@ -38,7 +38,7 @@ held : (b : List ℕ) → valid b ≡ true → Valid b
 held b v = record { long = clauses b v .long; tested = v }
 
 write-taken : (b : List ℕ) (v : ℕ) (buffer : List ℕ) → valid b ≡ true → storeBytes ≤ length buffer → writeAnswer b v buffer ≡ given (packetsAnswered (answer (load b) v))
-unfolding writeAnswer
+unfolding writeAnswer withRoom
 write-taken b v buffer k h =
     sym (answers b _ (held b k)) ∙ ap (λ t. cond t (given (packetsAnswered (answer (load b) v))) (refused 6)) (le-leb storeBytes (length buffer) h)
 
@@ -67,26 +67,35 @@ seen-valid b x k = go (accepts x) refl
     go true e = good-valid (screened (load b) x) (good-screened (load b) x (eqb-true (length x) captureBytes (unfold accepts in e)) (valid-good b k))
     go false e = k
 
-written-valid : (b : List ℕ) (v : ℕ) → valid b ≡ true → valid (writtenBlock b v) ≡ true
+pub written-valid : (b : List ℕ) (v : ℕ) → valid b ≡ true → valid (writtenBlock b v) ≡ true
 unfolding writtenBlock
 written-valid b v k = good-valid (written (load b) v) (good-written (load b) v (valid-good b k))
 
 -- a command leaves the buffer's length
-handed-long : (b : List ℕ) (v : ℕ) (buffer : List ℕ) → valid b ≡ true → storeBytes ≤ length buffer → length (handed (answer (load b) v) buffer) ≡ length buffer
+pub handed-long : (b : List ℕ) (v : ℕ) (buffer : List ℕ) → valid b ≡ true → storeBytes ≤ length buffer → length (handed (answer (load b) v) buffer) ≡ length buffer
 handed-long b v buffer k h = length-handed (answer (load b) v) buffer (answer-whole (load b) v (valid-good b k)) h
 
 -- ---- a whole log
 
--- of a valid block, with room for a command, the calls do what the rules give: no write is refused, and the buffer is told by the answers
-pub performed-calls : (b buffer : List ℕ) (l : List Act) → valid b ≡ true → storeBytes ≤ length buffer → performed b buffer l ≡ performedBy buffer (calls b l)
-unfolding performed calls performedBy bufferAfter repliesOf doneWrite doneScreen calledWrite calledScreen writeBlock writeCommand leaves writtenBlock
-performed-calls b buffer [] k h = refl
-performed-calls b buffer (write v ∷ l) k h =
+-- a write of a valid block, with room for a command, leaves what the rules give, and the log goes on from there
+pub performed-write : (b : List ℕ) (v : ℕ) (buffer : List ℕ) (l : List Act) → valid b ≡ true → storeBytes ≤ length buffer
+    → performed b buffer (write v ∷ l)
+    ≡ doneWrite (record { answer = given (packetsAnswered (answer (load b) v)); buffer = handed (answer (load b) v) buffer })
+    (performed (writtenBlock b v) (handed (answer (load b) v) buffer) l)
+unfolding performed writeBlock writeCommand leaves writtenBlock
+performed-write b v buffer l k h =
     ap
     (λ a.
     doneWrite (record { answer = a; buffer = leaves a (handed (answer (load b) v) buffer) buffer })
     (performed (leaves a (save (written (load b) v)) b) (leaves a (handed (answer (load b) v) buffer) buffer) l))
     (write-taken b v buffer k h)
+
+-- of a valid block, with room for a command, the calls do what the rules give: no write is refused, and the buffer is told by the answers
+pub performed-calls : (b buffer : List ℕ) (l : List Act) → valid b ≡ true → storeBytes ≤ length buffer → performed b buffer l ≡ performedBy buffer (calls b l)
+unfolding performed calls performedBy bufferAfter repliesOf doneWrite doneScreen calledWrite calledScreen
+performed-calls b buffer [] k h = refl
+performed-calls b buffer (write v ∷ l) k h =
+    performed-write b v buffer l k h
     ∙ ap (doneWrite (record { answer = given (packetsAnswered (answer (load b) v)); buffer = handed (answer (load b) v) buffer }))
     (performed-calls (writtenBlock b v) (handed (answer (load b) v) buffer) l (written-valid b v k) (omega (arith, handed-long b v buffer k h)))
 performed-calls b buffer (screen x ∷ l) k h =

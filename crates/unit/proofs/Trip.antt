@@ -33,7 +33,7 @@ use Rattle.rules.specs.Write.{advanced, meant, carries, stepped, written, answe
 use Rattle.order.specs.Log.{Act, write, Outcome, afterWrite, run}
 use Rattle.order.specs.Blocks.{Called}
 use Rattle.order.proofs.BlockOrder.{saved, calls-saved, run-good}
-use Rattle.block_write.specs.Bytes.{handed, packetsTold}
+use Rattle.block_port.specs.Bytes.{handed, packetsTold}
 use Rattle.unit.specs.Calls.{packetsAnswered}
 use Rattle.unit.specs.Together.{Reply, commandHeld, Performed, performed, repliesOf, bufferAfter, performedBy}
 use Rattle.unit.specs.Trip.{ones, risesIn, risen, sentTo, returned}

@@ -14,11 +14,17 @@ use Rattle.layout.specs.Block.{load, save}
 use Rattle.layout.specs.Fresh.{new, postBoot}
 use Rattle.rules.specs.Write.{written, answer}
 use Rattle.rules.specs.Screen.{screened, landing}
-use Rattle.block_write.specs.Bytes.{handed, packetsTold}
+use Rattle.block_port.specs.Bytes.{handed, packetsTold}
 use Rattle.view.specs.Refusal.{refusing}
 use Rattle.view.specs.Looks.{leaves}
 
--- ---- a joypad write, with a buffer for the command that it may complete: refusals 1, 2, 6 (112)
+-- ---- with a buffer for the command that a write may complete: refusals 1, 2, 6 (112)
+
+-- what a call answers that would answer a
+unfoldable pub withRoom : {A : Type 0} → List ℕ → List ℕ → A → Answer A
+withRoom b command a = refusing b (cond (leb storeBytes (length command)) (given a) (refused 6))
+
+-- ---- a joypad write
 
 -- the packets of a command that is complete: its bytes stand at the front of the buffer
 unfoldable pub packetsAnswered : Option (List ℕ) → Option ℕ
@@ -26,7 +32,7 @@ packetsAnswered none = none
 packetsAnswered (some d) = some (packetsTold (some d))
 
 unfoldable pub writeAnswer : List ℕ → ℕ → List ℕ → Answer (Option ℕ)
-writeAnswer b v command = refusing b (cond (leb storeBytes (length command)) (given (packetsAnswered (answer (load b) v))) (refused 6))
+writeAnswer b v command = withRoom b command (packetsAnswered (answer (load b) v))
 
 unfoldable pub writeBlock : List ℕ → ℕ → List ℕ → List ℕ
 writeBlock b v command = leaves (writeAnswer b v command) (save (written (load b) v)) b

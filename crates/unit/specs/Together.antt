@@ -9,7 +9,7 @@ use Rattle.transfer.specs.Pending.{landedOf}
 use Rattle.order.specs.Log.{Act, write, screen, Seen}
 use Rattle.order.specs.Log as log
 use Rattle.order.specs.Blocks.{Called}
-use Rattle.block_write.specs.Bytes.{handed}
+use Rattle.block_port.specs.Bytes.{handed}
 use Rattle.unit.specs.Calls.{packetsAnswered, writeAnswer, writeBlock, writeCommand, screenAnswer, screenBlock}
 
 -- what a write leaves with its caller: its answer, and every byte of the buffer after it

@@ -1,17 +1,12 @@
-// The public calls that change a block: a joypad write, a screen, and the fresh blocks; and the check of a saved one.
+// The public calls that change a block: a joypad write, writes in a row, a screen, and the fresh blocks; and the check of a saved one.
 // Rust: `write_joypad`, `update_screen`, `new`, `post_boot`. None asks anything of its caller, and a refusal changes no lent byte.
 // The meaning is in specs/Calls. The workers below them (the crates `block_..`) require a valid block and leave one, so that a long run checks once.
 ghost use mathlib.Core.Path.{_≡_};
-ghost use Prim.Native.Nat.{_≤_};
-ghost use lib.ListN.{length};
-ghost use Rattle.parts.specs.Parts.{storeBytes};
-ghost use Rattle.layout.specs.Block.{load, save};
-ghost use Rattle.layout.specs.Valid.{Valid};
-ghost use Rattle.rules.specs.Write.{written, answer};
+ghost use Rattle.bits.specs.Answer.{given};
 ghost use Rattle.view.specs.Refusal.{refusalOf};
-ghost use Rattle.block_write.specs.Bytes.{handed, packetsTold};
 ghost use Rattle.unit.specs.Calls.{writeAnswer, writeBlock, writeCommand, screenAnswer, screenBlock, freshAnswer, newBlock, postBootBlock};
-ghost use Rattle.unit.specs.Answers.{writtenTold, shownTold};
+ghost use Rattle.unit.specs.Plays.{playMost, lesser, playAnswer, playBlock, playCommand};
+ghost use Rattle.unit.specs.Answers.{writtenTold, playedTold, packetsIf, shownTold};
 use transfer::pending::Landed;
 
 // What a write answers: a refusal, nothing, or that a command of this many packets stands at the front of the buffer.
@@ -20,6 +15,17 @@ pub enum Written {
     Nothing,
     Command(u8),
 }
+
+// What writes in a row answer: a refusal; how many were taken, where none completed a command; or how many were taken and the packets of
+// the command that the last of them completed.
+pub enum Played {
+    Refused(u8),
+    Took(usize),
+    Command(usize, u8),
+}
+
+// The most writes that one call of `play` takes. The caller hands over the rest in the next.
+pub const PLAY_MOST: usize = 1048576;
 
 // What a screen answers: a refusal, or what landed.
 pub enum Shown {
@@ -40,26 +46,44 @@ pub fn write_joypad(block: &mut [u8], value: u8, command: &mut [u8]) -> Written
     if command.len() < parts::STORE_BYTES {
         return Written::Refused(6);
     }
-    let n = write(block, value, command);
+    let n = block_writes::write(block, value, command);
     if n == 0 {
         return Written::Nothing;
     }
     Written::Command(n)
 }
 
-// The same on a valid block, with room for a command: answers the packets of the command that is complete, or 0.
-fn write(block: &mut [u8], value: u8, command: &mut [u8]) -> u8
-    requires { ⌜ Valid (now block) × (storeBytes ≤ length (now command)) ⌝ }
-    ensures { λ r. ⌜ r ≡ packetsTold (answer (load (now (block .entry))) value) ⌝ }
-    ensures { λ _. ⌜ now (block .exit) ≡ save (written (load (now (block .entry))) value) ⌝ }
-    ensures { λ _. ⌜ now (command .exit) ≡ handed (answer (load (now (block .entry))) value) (now (command .entry)) ⌝ }
+// Writes in a row, up to and with the first that completes a command. Of more than PLAY_MOST only so many are taken.
+pub fn play(block: &mut [u8], writes: &[u8], command: &mut [u8]) -> Played
+    ensures { λ r. ⌜ playedTold r ≡ playAnswer (now (block .entry)) (now (writes .entry)) (now (command .entry)) ⌝ }
+    ensures { λ _. ⌜ now (block .exit) ≡ playBlock (now (block .entry)) (now (writes .entry)) (now (command .entry)) ⌝ }
+    ensures { λ _. ⌜ now (command .exit) ≡ playCommand (now (block .entry)) (now (writes .entry)) (now (command .entry)) ⌝ }
 {
-    let n = block_write::write_port(block, value, command);
-    if n == 0 {
-        return 0;
+    let no = view::refusal(block);
+    if no != 0 {
+        return Played::Refused(no);
     }
-    block_command::carry_front(block, command, n);
-    n
+    if command.len() < parts::STORE_BYTES {
+        return Played::Refused(6);
+    }
+    let most = at_most(writes.len());
+    let p = block_writes::play(block, &writes[0..most], command);
+    told(p.at, p.packets)
+}
+
+fn at_most(n: usize) -> usize
+    ensures { λ r. ⌜ r ≡ lesser n playMost ⌝ }
+{
+    if n < PLAY_MOST { n } else { PLAY_MOST }
+}
+
+fn told(at: usize, packets: u8) -> Played
+    ensures { λ r. ⌜ playedTold r ≡ given (record { writes = at; packets = packetsIf packets }) ⌝ }
+{
+    if packets == 0 {
+        return Played::Took(at);
+    }
+    Played::Command(at, packets)
 }
 
 // A screen: it becomes the live capture, and a transfer that is due lands.

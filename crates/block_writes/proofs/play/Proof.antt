@@ -4,7 +4,7 @@ use mathlib.Core.Path.{_∙_, ap, sym}
 use mathlib.Core.List.{List}
 use mathlib.Core.Option.{Option}
 use Prim.Native.Nat.{ℕ}
-use Rattle.block_write.specs.Bytes.{handed}
+use Rattle.block_port.specs.Bytes.{handed}
 use Rattle.block_writes.proofs.Blocks.{played-at, played-packets, played-none, played-told, played-one, ran-valid}
 use borrow.Author.Needs.{needs}
 use Rattle.block_writes.proofs.play.Statement.{statement}

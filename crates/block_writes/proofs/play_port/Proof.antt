@@ -2,8 +2,8 @@
 use denote.Ref.{now}
 use mathlib.Core.Path.{_∙_, ap}
 use Rattle.receiver_run.specs.Run.{Ended}
-use Rattle.block_write.specs.Bytes.{handed}
-use Rattle.block_writes.specs.Play.{commandOf}
+use Rattle.block_port.specs.Bytes.{handed}
+use Rattle.block_writes.specs.Ran.{commandOf}
 use Rattle.block_writes.proofs.Blocks.{loaded-ready, loaded-runs, put-long, receiver-long, ran}
 use borrow.Author.Needs.{needs}
 use Rattle.block_writes.proofs.play_port.Statement.{statement}

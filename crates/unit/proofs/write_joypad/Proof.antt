@@ -3,11 +3,12 @@ use mathlib.Core.Path.{sym, _∙_}
 use borrow.Author.Needs.{needs}
 use Rattle.layout.proofs.Goods.{valid-good}
 use Rattle.layout.specs.Block.{load}
+use Rattle.rules.specs.Write.{answer}
 use Rattle.view.proofs.Refusals.{refuses, accepts}
-use Rattle.unit.specs.Answers.{writtenTold}
-use Rattle.unit.specs.Calls.{writeAnswer}
-use Rattle.unit.proofs.Calling.{write-refused, write-short, write-given}
-use Rattle.unit.proofs.Writes.{none-answered, one-answered}
+use Rattle.unit.specs.Answers.{writtenTold, packetsIf}
+use Rattle.unit.specs.Calls.{withRoom, writeAnswer, writeBlock, writeCommand}
+use Rattle.unit.proofs.Calling.{room-refused, room-short, room-given}
+use Rattle.unit.proofs.Writes.{answer-whole, packets-if, packets-some}
 use Rattle.unit.proofs.write_joypad.Statement.{statement}
 use Rattle.unit.proofs.write_joypad.Tie as tie
 
@@ -18,21 +19,20 @@ same-length : tie.Need-same-length
 same-length c = search needs
 
 returns : tie.Need-returns
-unfolding writtenTold writeAnswer
+unfolding writtenTold writeAnswer writeBlock writeCommand withRoom
 returns c =
     let start = c .before .before .before .before .before .args in
-    write-refused (start .block .now) (start .value) (start .command .now) _ (refuses _ _ _ (c .before .refusal .ensures) (c .if1 .taken))
+    room-refused (start .block .now) (start .command .now) _ _ _ _ (refuses _ _ _ (c .before .refusal .ensures) (c .if1 .taken))
 
 same-length-2 : tie.Need-same-length-2
 same-length-2 c = search needs
 
 returns-2 : tie.Need-returns-2
-unfolding writtenTold
+unfolding writtenTold writeAnswer writeBlock writeCommand
 returns-2 c =
     let start = c .before .before .before .before .before .before .args in
     let r = c .before .before .refusal in
-    write-refused (start .block .now) (start .value) (start .command .now) 6
-    (write-short (start .block .now) (start .value) (start .command .now) (accepts _ (r .result) (r .ensures) (c .before .if1 .left)) (c .if2 .taken))
+    room-short (start .block .now) (start .command .now) _ _ _ (accepts _ (r .result) (r .ensures) (c .before .if1 .left)) (c .if2 .taken)
 
 write-requires : tie.Need-write-requires
 write-requires c κs =
@@ -46,14 +46,14 @@ same-length-4 : tie.Need-same-length-4
 same-length-4 c = search needs
 
 returns-3 : tie.Need-returns-3
-unfolding writtenTold
+unfolding writtenTold writeAnswer writeBlock writeCommand packetsIf
 returns-3 c =
     let start = c .before .before .before .before .before .before .before .before .before .before .before .before .before .before .args in
     let r = c .before .before .before .before .before .before .before .before .before .before .refusal in
     let w = c .before .before .before .before .before .write in
     let ok = accepts (start .block .now) (r .result) (r .ensures) (c .before .before .before .before .before .before .before .before .before .if1 .left) in
-    write-given (start .block .now) (start .value) (start .command .now) _ _ _ ok (c .before .before .before .before .before .before .before .before .if2 .left)
-    (none-answered (load (start .block .now)) (start .value) (valid-good (start .block .now) (ok .tested)) (sym (w .ensures .0) ∙ c .if3 .taken))
+    room-given (start .block .now) (start .command .now) _ _ _ _ _ _ ok (c .before .before .before .before .before .before .before .before .if2 .left)
+    (packets-if (answer (load (start .block .now)) (start .value)) 0 (answer-whole _ (start .value) (valid-good (start .block .now) (ok .tested))) (sym (c .if3 .taken) ∙ w .ensures .0))
     (w .ensures .1 .0) (w .ensures .1 .1)
 
 same-length-5 : tie.Need-same-length-5
@@ -63,14 +63,15 @@ same-length-6 : tie.Need-same-length-6
 same-length-6 c = search needs
 
 returns-4 : tie.Need-returns-4
-unfolding writtenTold
+unfolding writtenTold writeAnswer writeBlock writeCommand
 returns-4 c =
     let start = c .before .before .before .before .before .before .before .before .before .before .before .before .before .before .args in
     let r = c .before .before .before .before .before .before .before .before .before .before .refusal in
     let w = c .before .before .before .before .before .write in
     let ok = accepts (start .block .now) (r .result) (r .ensures) (c .before .before .before .before .before .before .before .before .before .if1 .left) in
-    write-given (start .block .now) (start .value) (start .command .now) _ _ _ ok (c .before .before .before .before .before .before .before .before .if2 .left)
-    (one-answered (load (start .block .now)) (start .value) (w .result) (w .ensures .0) (c .if3 .left)) (w .ensures .1 .0) (w .ensures .1 .1)
+    room-given (start .block .now) (start .command .now) _ _ _ _ _ _ ok (c .before .before .before .before .before .before .before .before .if2 .left)
+    (sym (packets-some (w .result) (c .if3 .left)) ∙ packets-if (answer (load (start .block .now)) (start .value)) (w .result) (answer-whole _ (start .value) (valid-good (start .block .now) (ok .tested))) (w .ensures .0))
+    (w .ensures .1 .0) (w .ensures .1 .1)
 
 pub write-joypad-spec : {M : Type 1} → statement M
 write-joypad-spec = tie.close (tie.spec refusal-requires same-length returns same-length-2 returns-2 write-requires same-length-3 same-length-4 returns-3 same-length-5 same-length-6 returns-4)

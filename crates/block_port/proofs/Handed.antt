@@ -13,7 +13,7 @@ use Rattle.layout.specs.Sgb.{Sgb}
 use Rattle.rules.specs.Carry.{plainly, carriedGame, carriedSnes, carried}
 use Rattle.rules.specs.Write.{meant}
 use Rattle.rules.proofs.Keeps.{WholeIf, complete-whole}
-use Rattle.block_write.specs.Bytes.{handed, packetsTold}
+use Rattle.block_port.specs.Bytes.{handed, packetsTold}
 
 -- it leaves the buffer's length
 pub length-handed : (o : Option (List ℕ)) (buffer : List ℕ) → WholeIf o → storeBytes ≤ length buffer → length (handed o buffer) ≡ length buffer

@@ -2,9 +2,9 @@
 use borrow.Author.Needs.{needs}
 use mathlib.Core.Path.{refl}
 use Rattle.layout.specs.Block.{load}
-use Rattle.block_write.specs.Bytes.{linesOf}
-use Rattle.block_write.proofs.load_lines.Statement.{statement}
-use Rattle.block_write.proofs.load_lines.Tie as tie
+use Rattle.block_port.specs.Bytes.{linesOf}
+use Rattle.block_port.proofs.load_lines.Statement.{statement}
+use Rattle.block_port.proofs.load_lines.Tie as tie
 
 shared-slice-read-t3 : tie.Need-shared-slice-read-t3
 shared-slice-read-t3 c = search needs

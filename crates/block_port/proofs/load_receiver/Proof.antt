@@ -4,8 +4,8 @@ use native.Mathlib.Omega.{arith}
 use denote.Ref.{now}
 use Rattle.layout.specs.Block.{load}
 use Rattle.block_packet.proofs.Halves.{value-words}
-use Rattle.block_write.proofs.load_receiver.Statement.{statement}
-use Rattle.block_write.proofs.load_receiver.Tie as tie
+use Rattle.block_port.proofs.load_receiver.Statement.{statement}
+use Rattle.block_port.proofs.load_receiver.Tie as tie
 
 shared-slice-read-stage-of : tie.Need-shared-slice-read-stage-of
 shared-slice-read-stage-of c = search needs

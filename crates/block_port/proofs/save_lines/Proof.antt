@@ -1,8 +1,8 @@
 -- Three stores.
 use borrow.Author.Needs.{needs}
-use Rattle.block_write.specs.Bytes.{putLines}
-use Rattle.block_write.proofs.save_lines.Statement.{statement}
-use Rattle.block_write.proofs.save_lines.Tie as tie
+use Rattle.block_port.specs.Bytes.{putLines}
+use Rattle.block_port.proofs.save_lines.Statement.{statement}
+use Rattle.block_port.proofs.save_lines.Tie as tie
 
 slice-write-block : tie.Need-slice-write-block
 slice-write-block c = search needs

@@ -3,10 +3,10 @@ use mathlib.Core.Path.{_∙_}
 use native.Mathlib.Nat.{sub-zero}
 use denote.Ref.{now}
 use Prim.Native.Nat.{_-_}
-use Rattle.block_write.proofs.Steps.{none-over, one-settled, one-handed}
+use Rattle.block_port.proofs.Steps.{none-over, one-settled, one-handed}
 use borrow.Author.Needs.{needs}
-use Rattle.block_write.proofs.hand_over.Statement.{statement}
-use Rattle.block_write.proofs.hand_over.Tie as tie
+use Rattle.block_port.proofs.hand_over.Statement.{statement}
+use Rattle.block_port.proofs.hand_over.Tie as tie
 
 returns : tie.Need-returns
 returns c = none-over (c .before .before .before .args .packets) _ _ (c .if1 .taken)

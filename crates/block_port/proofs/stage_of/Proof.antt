@@ -1,8 +1,8 @@
 -- Each arm is the definition's.
 use borrow.Author.Tests.{eq-eqb, ne-eqb}
 use Rattle.layout.specs.Block.{stageOf}
-use Rattle.block_write.proofs.stage_of.Statement.{statement}
-use Rattle.block_write.proofs.stage_of.Tie as tie
+use Rattle.block_port.proofs.stage_of.Statement.{statement}
+use Rattle.block_port.proofs.stage_of.Tie as tie
 
 returns : tie.Need-returns
 unfolding stageOf

@@ -5,9 +5,9 @@ use native.Mathlib.Omega.{arith}
 use denote.Ref.{now}
 use lib.ListN.{length, length-set}
 use Rattle.receiver.specs.Receive.{rxOf}
-use Rattle.block_write.proofs.Steps.{length-receiver, receiver-put}
-use Rattle.block_write.proofs.save_receiver.Statement.{statement}
-use Rattle.block_write.proofs.save_receiver.Tie as tie
+use Rattle.block_port.proofs.Steps.{length-receiver, receiver-put}
+use Rattle.block_port.proofs.save_receiver.Statement.{statement}
+use Rattle.block_port.proofs.save_receiver.Tie as tie
 
 stage-number-requires : tie.Need-stage-number-requires
 stage-number-requires c κs = search needs
