@@ -1,8 +1,8 @@
 -- Different answers give different numbers: what crosses to C tells the answer whole. A refusal's number is from 1 to 7, so it is in the
 -- low byte, where a value leaves 0 and "none" is 128.
-use Prim.Native.Nat.{ℕ, zero, suc, _≤_, _<_}
+use Prim.Native.Nat.{ℕ, zero, suc, _+_, _*_, _/_, _≤_, _<_}
 use native.Mathlib.Omega.{arith}
-use mathlib.Core.Path.{_≡_, refl, ap}
+use mathlib.Core.Path.{_≡_, refl, sym, ap, _∙_}
 use mathlib.Core.Bool.{Bool, true, false, _&&_, cond}
 use mathlib.Core.List.{List}
 use mathlib.Core.Logic.{_⊎_, inl, inr, ⊎-elim}
@@ -21,7 +21,11 @@ use Rattle.layout.specs.Valid.{valid}
 use Rattle.view.specs.Refusal.{refusing}
 use Rattle.view.specs.Looks.{modeOf, backdropAnswer, shadeAnswer, entryAnswer, borderAnswer, rowAnswer, pictureAnswer}
 use Rattle.unit.specs.Calls.{withRoom, writeAnswer, screenAnswer}
-use Rattle.export.specs.Coded.{coded, value, optional, truth}
+use Rattle.unit.specs.Plays.{Taken, playAnswer}
+use Rattle.log_line.specs.Line.{Meaning, writes, screen, meaningOf}
+use Rattle.log_line.specs.Line.{refused as noLine}
+use Rattle.log_line.specs.Calls.{Content, writesOf, oneScreen, meaningTold, lineAnswer}
+use Rattle.export_answers.specs.Coded.{coded, value, optional, truth, packetsNumber, run, content}
 use Rattle.export.specs.Parts.{rgbNumber}
 
 -- ---- a code of values that stays clear of the refusals
@@ -91,6 +95,55 @@ rgb-apart c d p q s t e =
     let z : c .b ≡ d .b = omega arith in
     λ i. record { r = x i; g = y i; b = z i }
 
+-- ---- two numbers in one: writes with a command's packets, and the bytes of a line with its kind
+
+-- none is told apart from a command, which has one packet at least
+unfoldable pub Completes : Option ℕ → Type 0
+Completes none = Unit {0}
+Completes (some n) = 1 ≤ n
+
+packets-once : (a b : Option ℕ) → Completes a → Completes b → packetsNumber a ≡ packetsNumber b → a ≡ b
+unfolding Completes packetsNumber
+packets-once none none f g e = refl
+packets-once none (some n) f g e = absurd (omega arith)
+packets-once (some m) none f g e = absurd (omega arith)
+packets-once (some m) (some n) f g e = ap some e
+
+-- the one above, the other below 8
+eighths-of : (m p n q : ℕ) → p < 8 → q < 8 → 8 * m + p ≡ 8 * n + q → (m ≡ n) × (p ≡ q)
+eighths-of m p n q f g e =
+    let x : (8 * m + p) / 8 ≡ m = omega arith in
+    let y : (8 * n + q) / 8 ≡ n = omega arith in
+    let z : m ≡ n = sym x ∙ ap (λ (k : ℕ). k / 8) e ∙ y in
+    (z, omega arith)
+
+run-of : (t u : Taken) → packetsNumber (t .packets) < 8 → packetsNumber (u .packets) < 8 → run t ≡ run u
+    → (t .writes ≡ u .writes) × (packetsNumber (t .packets) ≡ packetsNumber (u .packets))
+unfolding run
+run-of t u p q e = eighths-of (t .writes) (packetsNumber (t .packets)) (u .writes) (packetsNumber (u .packets)) p q (value-once _ _ e)
+
+-- a command has a packet at least
+pub run-apart : (t u : Taken) → packetsNumber (t .packets) < 8 → packetsNumber (u .packets) < 8 → Completes (t .packets) → Completes (u .packets) → run t ≡ run u → t ≡ u
+run-apart t u p q f g e =
+    let k = run-of t u p q e in
+    let l = packets-once (t .packets) (u .packets) f g (k .1) in
+    λ i. record { writes = k .0 i; packets = l i }
+
+pub content-once : Once content
+unfolding content
+content-once (writesOf m) (writesOf n) e = let k : m ≡ n = omega arith in ap writesOf k
+content-once (writesOf m) oneScreen e = absurd (omega arith)
+content-once oneScreen (writesOf n) e = absurd (omega arith)
+content-once oneScreen oneScreen e = refl
+
+content-clear : Clear content
+unfolding content
+content-clear (writesOf n) = inr (omega arith)
+content-clear oneScreen = inr (omega arith)
+
+pub content-apart : (a b : Answer Content) → Numbered a → Numbered b → coded content a ≡ coded content b → a ≡ b
+content-apart = coded-once content content-once content-clear
+
 -- ---- and every refusal that a call gives has such a number
 
 refused-numbered : (A : Type 0) (n : ℕ) → 1 ≤ n → n ≤ 7 → Numbered {A = A} (refused n)
@@ -155,3 +208,17 @@ encoding-numbered c room =
 pub verdict-numbered : (c : List ℕ) → Numbered (judged c)
 unfolding judged
 verdict-numbered c = either Numbered (malformed c) (λ _. refused-numbered _ 5 (lit≤ tt) (lit≤ tt)) (λ _. given-numbered _)
+
+pub play-numbered : (b ws command : List ℕ) → Numbered (playAnswer b ws command)
+unfolding playAnswer withRoom
+play-numbered b ws command = refusing-numbered b _ (test-numbered (leb storeBytes (length command)) _ 6 (given-numbered _) (lit≤ tt) (lit≤ tt))
+
+meaning-numbered : (m : Meaning) → Numbered (meaningTold m)
+unfolding meaningTold
+meaning-numbered (writes ws) = given-numbered _
+meaning-numbered (screen d) = given-numbered _
+meaning-numbered noLine = refused-numbered _ 7 (lit≤ tt) (lit≤ tt)
+
+pub line-numbered : (text bytes : List ℕ) → Numbered (lineAnswer text bytes)
+unfolding lineAnswer
+line-numbered text bytes = test-numbered (leb captureBytes (length bytes)) _ 6 (meaning-numbered (meaningOf text)) (lit≤ tt) (lit≤ tt)

@@ -9,6 +9,7 @@ use Rattle.export.proofs.changing.sporedrift_new.Reads as new
 use Rattle.export.proofs.changing.sporedrift_post_boot.Reads as post-boot
 use Rattle.export.proofs.changing.sporedrift_check.Reads as check
 use Rattle.export.proofs.changing.sporedrift_write_joypad.Reads as write-joypad
+use Rattle.export.proofs.changing.sporedrift_play.Reads as play
 use Rattle.export.proofs.changing.sporedrift_update_screen.Reads as update-screen
 use Rattle.export.proofs.looking.sporedrift_mask_mode.Reads as mask-mode
 use Rattle.export.proofs.looking.sporedrift_backdrop.Reads as backdrop
@@ -22,6 +23,8 @@ use Rattle.export.proofs.lending.sporedrift_displayed_screen.Reads as d
 use Rattle.export.proofs.lending.sporedrift_tile.Reads as tile
 use Rattle.export.proofs.sending.sporedrift_encode.Reads as encode
 use Rattle.export.proofs.sending.sporedrift_verdict.Reads as verdict
+use Rattle.export.proofs.reading.sporedrift_parse_line.Reads as parse-line
+use Rattle.export.proofs.reading.sporedrift_version.Reads as version
 
 -- the number, the block
 pub new-determined : (k : _) → Determined (ℕ × List ℕ) (new.Learnt k) (λ r e. (r, now (e .0)))
@@ -37,6 +40,9 @@ check-determined k a r s e f p q = same r s p q
 -- the number, the block, the buffer
 pub write-joypad-determined : (k : _) → Determined (ℕ × List ℕ × List ℕ) (write-joypad.Learnt k) (λ r e. (r, now (e .0), now (e .1 .1 .0)))
 write-joypad-determined k a r s e f p q = λ t. (same r s (p .0) (q .0) t, same _ _ (p .1 .0) (q .1 .0) t, same _ _ (p .1 .1) (q .1 .1) t)
+
+pub play-determined : (k : _) → Determined (ℕ × List ℕ × List ℕ) (play.Learnt k) (λ r e. (r, now (e .0), now (e .1 .1 .0)))
+play-determined k a r s e f p q = λ t. (same r s (p .0) (q .0) t, same _ _ (p .1 .0) (q .1 .0) t, same _ _ (p .1 .1) (q .1 .1) t)
 
 -- the number, the block
 pub update-screen-determined : (k : _) → Determined (ℕ × List ℕ) (update-screen.Learnt k) (λ r e. (r, now (e .0)))
@@ -82,3 +88,11 @@ encode-determined k a r s e f p q = λ t. (same r s (p .0) (q .0) t, same _ _ (p
 -- the number alone
 pub verdict-determined : (k : _) → Determined ℕ (verdict.Learnt k) (λ r e. r)
 verdict-determined k a r s e f p q = same r s p q
+
+-- the number, the bytes of the line
+pub parse-line-determined : (k : _) → Determined (ℕ × List ℕ) (parse-line.Learnt k) (λ r e. (r, now (e .1 .0)))
+parse-line-determined k a r s e f p q = λ t. (same r s (p .0) (q .0) t, same _ _ (p .1) (q .1) t)
+
+-- the number alone
+pub version-determined : (k : _) → Determined ℕ (version.Learnt k) (λ r e. r)
+version-determined k a r s e f p q = same r s p q

@@ -1,30 +1,38 @@
--- Every number that a call answers leaves the low byte of what crosses free: a mask mode, 256, 57,344, at most 1,820 writes.
-use Prim.Native.Nat.{ℕ, _<_}
+-- Every number that a call answers leaves the low byte of what crosses free: a mask mode, 256, 57,344, at most 1,820 writes; and so do the
+-- writes that one call takes, with the packets of a command, and those of a line.
+use Prim.Native.Nat.{ℕ, _<_, _≤_}
 use native.Mathlib.Omega.{arith}
-use mathlib.Core.Path.{_≡_, sym, subst}
+use mathlib.Core.Path.{_≡_}
 use mathlib.Core.Bool.{true}
-use mathlib.Core.List.{List}
+use mathlib.Core.List.{List, [], _∷_}
+use mathlib.Core.Option.{Option, none, some}
+use borrow.Author.Tests.{leb-true}
 use lib.Dec.{eqb, ltb, leb, lit<}
-use lib.ListN.{length, getD}
+use lib.ListN.{length, getD, take, length-take}
 use Rattle.bits.proofs.Tests.{either}
 use Rattle.receiver.proofs.Sound.{count-few}
 use Rattle.pulses.specs.Answer.{Answer, given}
 use Rattle.pulses.specs.Bytes.{packetsIn, malformed}
 use Rattle.pulses.specs.Encode.{encoding, short}
-use Rattle.parts.specs.Parts.{blockBytes}
+use Rattle.parts.specs.Parts.{blockBytes, storeBytes, captureBytes}
+use Rattle.layout.specs.Block.{load}
+use Rattle.layout.specs.Sgb.{Sgb}
 use Rattle.layout.specs.Valid.{valid}
 use Rattle.layout.proofs.Goods.{valid-good}
 use Rattle.view.specs.Refusal.{refusing}
 use Rattle.block_picture.specs.Drawn.{partsOf}
 use Rattle.view.specs.Looks.{modeOf, rowAnswer, pictureAnswer}
-use Rattle.export.specs.Coded.{Fits}
-
-pub fits-of : {a b : Answer ℕ} → a ≡ b → Fits b → Fits a
-fits-of e f = subst Fits (sym e) f
-
-pub given-fits : {a : Answer ℕ} {v : ℕ} → a ≡ given v → Fits a → v < 16777216
-unfolding Fits
-given-fits e f = subst Fits e f
+use Rattle.hex.specs.Hex.{bytesOf}
+use Rattle.log_line.specs.Line.{Meaning, byKind, byBytes, meaningOf}
+use Rattle.log_line.specs.Calls.{meaningTold, lineAnswer}
+use Rattle.rules.proofs.Keeps.{WholeIf}
+use Rattle.block_port.specs.Bytes.{packetsTold}
+use Rattle.block_writes.specs.Play.{played}
+use Rattle.block_writes.proofs.Plays.{kept-played}
+use Rattle.unit.specs.Calls.{packetsAnswered, withRoom}
+use Rattle.unit.specs.Plays.{playMost, playedBy, playAnswer}
+use Rattle.unit.proofs.Pieces.{played-few}
+use Rattle.export_answers.specs.Coded.{packetsNumber, Fits, RunFits, ContentFits}
 
 refusing-fits : (b : List ℕ) (a : Answer ℕ) → (valid b ≡ true → Fits a) → Fits (refusing b a)
 unfolding refusing Fits
@@ -49,3 +57,42 @@ unfolding encoding packetsIn Fits
 encoding-fits c room =
     either Fits (malformed c) (λ _. tt)
     (λ _. either Fits (short c room) (λ _. tt) (λ _. let f = count-few (getD c 0 0) in omega arith))
+
+-- ---- writes in a row, and a line
+
+packets-few : (o : Option (List ℕ)) → WholeIf o → packetsNumber (packetsAnswered o) < 8
+unfolding packetsNumber packetsAnswered packetsTold
+packets-few none w = lit< tt
+packets-few (some d) w = omega (arith, w .most)
+
+few-taken : (u : Sgb) (ws : List ℕ) → played u (take playMost ws) .at ≤ 1048576
+unfolding playMost
+few-taken u ws = omega (arith, played-few u (take playMost ws), length-take playMost ws)
+
+pub play-fits : (b ws command : List ℕ) → RunFits (playAnswer b ws command)
+unfolding playAnswer withRoom refusing RunFits
+play-fits b ws command =
+    either RunFits (eqb (length b) blockBytes)
+    (λ _. either RunFits (valid b)
+    (λ v. either RunFits (leb storeBytes (length command))
+    (λ _. (few-taken (load b) ws, packets-few (playedBy b ws .told) (kept-played (load b) (take playMost ws) (valid-good b v) .whole)))
+    (λ _. tt)) (λ _. tt)) (λ _. tt)
+
+LineFits : Meaning → Type 0
+LineFits m = ContentFits (meaningTold m)
+
+kind-fits : (l : List ℕ) → LineFits (byKind l)
+unfolding LineFits byKind meaningTold ContentFits
+kind-fits [] = tt
+kind-fits (k ∷ d) =
+    either LineFits (eqb k 1) (λ _. either LineFits (leb (length d) captureBytes) (λ h. leb-true (length d) captureBytes h) (λ _. tt))
+    (λ _. either LineFits (eqb k 2) (λ _. either LineFits (eqb (length d) captureBytes) (λ _. tt) (λ _. tt)) (λ _. tt))
+
+bytes-fit : (o : Option (List ℕ)) → LineFits (byBytes o)
+unfolding byBytes
+bytes-fit none = unfold LineFits meaningTold ContentFits in tt
+bytes-fit (some l) = kind-fits l
+
+pub line-fits : (text bytes : List ℕ) → ContentFits (lineAnswer text bytes)
+unfolding lineAnswer meaningOf LineFits
+line-fits text bytes = either ContentFits (leb captureBytes (length bytes)) (λ _. bytes-fit (bytesOf text)) (λ _. unfold ContentFits in tt)

@@ -11,7 +11,7 @@ use borrow.Author.Tests.{eq-eqb, ne-eqb, leb-true}
 use Rattle.parts.specs.Parts.{tilesBytes, captureBytes}
 use Rattle.screen.specs.Displayed.{displayed}
 use Rattle.border.specs.Tile.{tilePart}
-use Rattle.export.specs.Coded.{value, optional}
+use Rattle.export_answers.specs.Coded.{value, optional}
 use Rattle.export.specs.Parts.{placed, capture, tileAt, captureRead, tileRead}
 
 -- ---- what the length of a part tells

@@ -1,9 +1,9 @@
 // The calls that change a block, and the check of a saved one (the crate `unit`).
 ghost use mathlib.Core.Path.{_≡_};
 ghost use Rattle.unit.specs.Calls.{writeAnswer, writeBlock, writeCommand, screenAnswer, screenBlock, freshAnswer, newBlock, postBootBlock};
+ghost use Rattle.unit.specs.Plays.{playAnswer, playBlock, playCommand};
 ghost use Rattle.view.specs.Refusal.{refusalOf};
-ghost use Rattle.export.specs.Coded.{coded, optional};
-use super::answers;
+ghost use Rattle.export_answers.specs.Coded.{coded, optional, run};
 
 #[no_mangle]
 pub extern "C" fn sporedrift_new(block: &mut [u8]) -> u32
@@ -34,7 +34,16 @@ pub extern "C" fn sporedrift_write_joypad(block: &mut [u8], value: u8, command: 
     ensures { λ _. ⌜ now (block .exit) ≡ writeBlock (now (block .entry)) value (now (command .entry)) ⌝ }
     ensures { λ _. ⌜ now (command .exit) ≡ writeCommand (now (block .entry)) value (now (command .entry)) ⌝ }
 {
-    answers::of_written(unit::write_joypad(block, value, command))
+    export_answers::of_written(unit::write_joypad(block, value, command))
+}
+
+#[no_mangle]
+pub extern "C" fn sporedrift_play(block: &mut [u8], writes: &[u8], command: &mut [u8]) -> u32
+    ensures { λ r. ⌜ r ≡ coded run (playAnswer (now (block .entry)) (now (writes .entry)) (now (command .entry))) ⌝ }
+    ensures { λ _. ⌜ now (block .exit) ≡ playBlock (now (block .entry)) (now (writes .entry)) (now (command .entry)) ⌝ }
+    ensures { λ _. ⌜ now (command .exit) ≡ playCommand (now (block .entry)) (now (writes .entry)) (now (command .entry)) ⌝ }
+{
+    export_answers::of_played(unit::play(block, writes, command))
 }
 
 #[no_mangle]
@@ -42,5 +51,5 @@ pub extern "C" fn sporedrift_update_screen(block: &mut [u8], screen: &[u8]) -> u
     ensures { λ r. ⌜ r ≡ coded optional (screenAnswer (now (block .entry)) (now (screen .entry))) ⌝ }
     ensures { λ _. ⌜ now (block .exit) ≡ screenBlock (now (block .entry)) (now (screen .entry)) ⌝ }
 {
-    answers::of_shown(unit::update_screen(block, screen))
+    export_answers::of_shown(unit::update_screen(block, screen))
 }

@@ -15,7 +15,7 @@ use Rattle.rules.specs.Write.{written, answer}
 use Rattle.rules.proofs.Keeps.{WholeIf}
 use Rattle.block_port.specs.Bytes.{handed, packetsTold}
 use Rattle.block_writes.specs.Play.{Played, stop, played}
-use Rattle.block_writes.proofs.Plays.{kept-played}
+use Rattle.block_writes.proofs.Plays.{Kept, kept-played}
 use Rattle.log_line.specs.Lines.{markedFrom, meaningMarked}
 use Rattle.log_line.specs.Split.{heldAs}
 use Rattle.log.specs.Events.{Event, completed, answerEvents, writeEvents, afterWrites, eventsFrom, afterLines}

@@ -1,7 +1,7 @@
 -- What the call tells, as a number.
 use borrow.Author.Needs.{needs}
 use mathlib.Core.Path.{ap, _∙_}
-use Rattle.export.specs.Coded.{value}
+use Rattle.export_answers.specs.Coded.{value}
 use Rattle.colour.specs.declared.Rgb8.{Rgb8}
 use Rattle.export.specs.Parts.{rgbNumber}
 use Rattle.export.proofs.looking.sporedrift_to_rgb8.Statement.{statement}

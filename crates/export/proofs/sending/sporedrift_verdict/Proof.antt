@@ -1,7 +1,7 @@
 -- What the call tells, as a number.
 use borrow.Author.Needs.{needs}
 use mathlib.Core.Path.{ap, _∙_}
-use Rattle.export.specs.Coded.{coded, truth}
+use Rattle.export_answers.specs.Coded.{coded, truth}
 use Rattle.export.proofs.sending.sporedrift_verdict.Statement.{statement}
 use Rattle.export.proofs.sending.sporedrift_verdict.Tie as tie
 

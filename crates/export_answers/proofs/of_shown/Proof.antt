@@ -1,9 +1,9 @@
 -- Each case is its own.
 use borrow.Author.Needs.{needs}
 use Rattle.unit.specs.Answers.{shownTold}
-use Rattle.export.specs.Coded.{coded}
-use Rattle.export.proofs.answers.of_shown.Statement.{statement}
-use Rattle.export.proofs.answers.of_shown.Tie as tie
+use Rattle.export_answers.specs.Coded.{coded}
+use Rattle.export_answers.proofs.of_shown.Statement.{statement}
+use Rattle.export_answers.proofs.of_shown.Tie as tie
 
 enum-known-told : tie.Need-enum-known-told
 enum-known-told c = search needs

@@ -2,9 +2,9 @@
 use borrow.Author.Needs.{needs}
 use mathlib.Core.Path.{ap, _∙_}
 use Rattle.transfer.specs.Pending.{landedOf}
-use Rattle.export.specs.Coded.{value, optional}
-use Rattle.export.proofs.answers.of_landed.Statement.{statement}
-use Rattle.export.proofs.answers.of_landed.Tie as tie
+use Rattle.export_answers.specs.Coded.{value, optional}
+use Rattle.export_answers.proofs.of_landed.Statement.{statement}
+use Rattle.export_answers.proofs.of_landed.Tie as tie
 
 enum-told : tie.Need-enum-told
 enum-told c = search needs

@@ -3,10 +3,10 @@ use borrow.Author.Needs.{needs}
 use mathlib.Core.Path.{ap}
 use native.Mathlib.Omega.{arith}
 use Rattle.view.specs.Answers.{numberTold}
-use Rattle.export.specs.Coded.{coded}
-use Rattle.export.proofs.Fitting.{given-fits}
-use Rattle.export.proofs.answers.of_number.Statement.{statement}
-use Rattle.export.proofs.answers.of_number.Tie as tie
+use Rattle.export_answers.specs.Coded.{coded}
+use Rattle.export_answers.proofs.Fitting.{given-fits}
+use Rattle.export_answers.proofs.of_number.Statement.{statement}
+use Rattle.export_answers.proofs.of_number.Tie as tie
 
 enum-known-told : tie.Need-enum-known-told
 enum-known-told c = search needs

@@ -1,14 +1,18 @@
 // Each enum that a public call answers, as the number that crosses (specs/Coded).
 ghost use mathlib.Core.Path.{_≡_};
-ghost use Prim.Native.Nat.{_<_};
+ghost use Prim.Native.Nat.{_+_, _*_, _<_, _≤_};
 ghost use Rattle.pulses.specs.Answer.{encodedAnswer, verdictAnswer};
-ghost use Rattle.unit.specs.Answers.{writtenTold, shownTold};
+ghost use Rattle.log_line.specs.Calls.{lineTold};
+ghost use Rattle.unit.specs.Answers.{writtenTold, playedTold, shownTold};
 ghost use Rattle.view.specs.Answers.{numberTold, colourTold, entryTold, borderTold};
 ghost use Rattle.transfer.specs.Pending.{landedOf};
-ghost use Rattle.export.specs.Coded.{coded, value, optional, truth, Fits};
+ghost use Rattle.export_answers.specs.Coded.{coded, value, optional, truth, run, content, Fits, RunFits, ContentFits};
+use log_line::Line;
+use parts::CAPTURE_BYTES;
 use pulses::Conformance;
 use pulses::Encoded;
 use transfer::pending::Landed;
+use unit::Played;
 use unit::Shown;
 use unit::Written;
 use view::Border;
@@ -26,6 +30,14 @@ pub fn value(v: u32) -> u32
     256 * v
 }
 
+// A number and one below 8 beside it, as a value.
+fn eighths(n: usize, k: u8) -> u32
+    requires { ⌜ (n ≤ 1048576) × (k < 8) ⌝ }
+    ensures { λ r. ⌜ r ≡ value (8 * n + k) ⌝ }
+{
+    value((8 * n) as u32 + k as u32)
+}
+
 pub fn of_written(told: Written) -> u32
     ensures { λ r. ⌜ r ≡ coded optional (writtenTold told) ⌝ }
 {
@@ -33,6 +45,17 @@ pub fn of_written(told: Written) -> u32
         Written::Refused(n) => n as u32,
         Written::Nothing => NONE,
         Written::Command(n) => value(n as u32),
+    }
+}
+
+pub fn of_played(told: Played) -> u32
+    requires { ⌜ RunFits (playedTold told) ⌝ }
+    ensures { λ r. ⌜ r ≡ coded run (playedTold told) ⌝ }
+{
+    match told {
+        Played::Refused(n) => n as u32,
+        Played::Took(at) => eighths(at, 0),
+        Played::Command(at, n) => eighths(at, n),
     }
 }
 
@@ -110,5 +133,16 @@ pub fn of_verdict(told: Conformance) -> u32
         Conformance::Malformed => 5,
         Conformance::Conforms => value(1),
         Conformance::Differs => value(0),
+    }
+}
+
+pub fn of_line(told: Line) -> u32
+    requires { ⌜ ContentFits (lineTold told) ⌝ }
+    ensures { λ r. ⌜ r ≡ coded content (lineTold told) ⌝ }
+{
+    match told {
+        Line::Refused(n) => n as u32,
+        Line::Writes(n) => eighths(n, 1),
+        Line::Screen => eighths(CAPTURE_BYTES, 2),
     }
 }

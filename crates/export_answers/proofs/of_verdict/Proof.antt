@@ -1,9 +1,9 @@
 -- Each case is its own.
 use borrow.Author.Needs.{needs}
 use Rattle.pulses.specs.Answer.{verdictAnswer}
-use Rattle.export.specs.Coded.{coded, truth}
-use Rattle.export.proofs.answers.of_verdict.Statement.{statement}
-use Rattle.export.proofs.answers.of_verdict.Tie as tie
+use Rattle.export_answers.specs.Coded.{coded, truth}
+use Rattle.export_answers.proofs.of_verdict.Statement.{statement}
+use Rattle.export_answers.proofs.of_verdict.Tie as tie
 
 enum-told : tie.Need-enum-told
 enum-told c = search needs

@@ -3,10 +3,10 @@ use borrow.Author.Needs.{needs}
 use mathlib.Core.Path.{ap}
 use native.Mathlib.Omega.{arith}
 use Rattle.pulses.specs.Answer.{encodedAnswer}
-use Rattle.export.specs.Coded.{coded}
-use Rattle.export.proofs.Fitting.{given-fits}
-use Rattle.export.proofs.answers.of_encoded.Statement.{statement}
-use Rattle.export.proofs.answers.of_encoded.Tie as tie
+use Rattle.export_answers.specs.Coded.{coded}
+use Rattle.export_answers.proofs.Fitting.{given-fits}
+use Rattle.export_answers.proofs.of_encoded.Statement.{statement}
+use Rattle.export_answers.proofs.of_encoded.Tie as tie
 
 enum-told : tie.Need-enum-told
 enum-told c = search needs
