@@ -1,5 +1,5 @@
 // A write to the joypad register, on a valid block, up to the command that it completes: the receiver and the lines out of the block, the
-// write, and back. Document 01, A write. The meaning is `stepped` in the crate `rules`; the port's bytes are in specs/Bytes.
+// write, and back. RULES 3. The meaning is `stepped` in the crate `rules`; the port's bytes are in specs/Bytes.
 ghost use mathlib.Core.Path.{_≡_};
 ghost use mathlib.Core.Bool.{true};
 ghost use Prim.Native.Nat.{_≤_, _<_};
