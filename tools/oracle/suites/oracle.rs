@@ -1,5 +1,5 @@
-//! The oracle held to document 01, with no port: that it loads and saves every valid block, that what it leaves is valid,
-//! and that document 01's worked examples are what the Rust does. What the other suites find rests on this.
+//! The oracle held to RULES, with no port: that it loads and saves every valid block, that what it leaves is valid,
+//! and that the worked examples of RULES 10 are what the Rust does. What the other suites find rests on this.
 
 use crate::block::{self, *};
 use crate::ctx::Ctx;
@@ -208,7 +208,7 @@ fn pages(ctx: &mut Ctx) {
     }
 }
 
-/// Document 01, "Pairs on each edge" and the examples in its text, through the Rust.
+/// RULES 10.1 and 10.2 and the example of 8.5, through the Rust.
 fn worked_examples(ctx: &mut Ctx) {
     let mut holds = |what: &str, holds: bool| ctx.check(holds, || what.into());
 
