@@ -262,7 +262,7 @@ fn worked_examples(ctx: &mut Ctx) {
     holds("00 then 20: no bit", b[RECEIVER] == 1 && b[BIT_INDEX] == 0);
     let cells = cells_after(&[0x39, 19, 17, 2, 0, 0, 0xFF]);
     let one = cells.iter().flatten().filter(|c| **c != 0).count() == 1 && cells[17][19] == 3;
-    holds("ATTR_CHR at (19,17) of count 2", one);
+    holds("ATTR_CHR from the last cell on", one);
 
     let mut rust = Oracle::post_boot();
     let mut command = [0; 16];
@@ -273,7 +273,7 @@ fn worked_examples(ctx: &mut Ctx) {
     let screen = vec![0; SCREEN_LEN];
     let landed = [(); 4].map(|_| rust.screen(&screen));
     holds(
-        "a transfer lands at the third screen",
+        "the third screen lands",
         landed == [None, None, Some(0), None],
     );
 }
