@@ -26,12 +26,12 @@ extern "C" {
 
 #define SPOREDRIFT_NONE 0x80u
 
-#define SPOREDRIFT_REFUSED_LENGTH 1u  /* the block's length is not SPOREDRIFT_BLOCK */
+#define SPOREDRIFT_REFUSED_LENGTH 1u  /* the block's length is not SPOREDRIFT_BLOCK (refusals: docs/RULES.md, 2.1) */
 #define SPOREDRIFT_REFUSED_BLOCK 2u   /* the block is not valid; new and post_boot make a valid one, and calls keep it so */
 #define SPOREDRIFT_REFUSED_SCREEN 3u  /* the screen's length is not SPOREDRIFT_SCREEN */
-#define SPOREDRIFT_REFUSED_PLACE 4u   /* a column or row is outside what is asked about, or a shade is over 3 */
-#define SPOREDRIFT_REFUSED_COMMAND 5u /* the command is empty, or its length is not 16 times the count of its first byte */
-#define SPOREDRIFT_REFUSED_OUTPUT 6u  /* the output lent is short of the call's greatest answer */
+#define SPOREDRIFT_REFUSED_PLACE 4u   /* there is no such column, row or shade (docs/RULES.md, 2.5) */
+#define SPOREDRIFT_REFUSED_COMMAND 5u /* no command: not 16 bytes for each packet that its first byte counts */
+#define SPOREDRIFT_REFUSED_OUTPUT 6u  /* the output lent has no room for the call's longest result (docs/RULES.md, 2.6) */
 
 /* The number of the refusal, or 0: then sporedrift_value has the value, unless the answer is SPOREDRIFT_NONE. */
 static inline uint32_t sporedrift_refusal(uint32_t answer) { return answer & 0x7Fu; }
@@ -40,7 +40,7 @@ static inline uint32_t sporedrift_value(uint32_t answer) { return answer >> 8; }
 /* ---- sizes, in elements, and where the parts that two calls are lent start in the block */
 
 #define SPOREDRIFT_BLOCK 30020u
-#define SPOREDRIFT_SCREEN 5760u       /* 160 by 144 shades, row by row, four to a byte, the first in the high bits */
+#define SPOREDRIFT_SCREEN 5760u       /* 144 rows of 160 shades, packed from the high bits down (docs/RULES.md, 1.2) */
 #define SPOREDRIFT_COMMAND 112u       /* the longest command: seven packets */
 #define SPOREDRIFT_PACKET 16u
 #define SPOREDRIFT_PACKET_WRITES 260u /* joypad writes that send one packet */

@@ -1,4 +1,4 @@
-//! The unit block as document 01 lays it out ("The unit block"): the name of each byte and part, the two fresh blocks,
+//! The unit block as RULES 1 lays it out: the name of each byte and part, the two fresh blocks,
 //! and packed pairs (shades and palette numbers, four to a byte, the first in the high pair).
 
 use std::ops::Range;
@@ -90,7 +90,7 @@ pub fn unpack(bytes: &[u8]) -> Vec<u8> {
     pairs
 }
 
-/// Where `at` stands, in document 01's words: a reader of a failure looks there.
+/// Where `at` stands, by the part's name in RULES 1.5: a reader of a failure looks there.
 pub fn place(at: usize) -> String {
     match PARTS.iter().find(|(_, part)| part.contains(&at)) {
         Some((name, part)) => format!("byte {at} ({name} + {})", at - part.start),

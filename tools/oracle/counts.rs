@@ -6,7 +6,7 @@ use crate::generate::Class;
 use std::cell::RefCell;
 use std::collections::BTreeMap;
 
-/// The kinds of landings by number, and of fixed writes (document 01; README.md, "The merged logs").
+/// The kinds of landings by number, and of fixed writes (RULES 4.12 and 9.3; README.md, "The merged logs").
 const LANDINGS: [&str; 5] = [
     "PAL_TRN",
     "ATTR_TRN",

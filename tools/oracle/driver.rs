@@ -1,5 +1,5 @@
 //! The Rust driven by a log: what the port's programs must print of it, and the picture at its end. The unit is the Rust's; the
-//! reading of the log's lines is written here from document 01 ("Pulses, verdict, log") alone and shares nothing with the port.
+//! reading of the log's lines is written here from RULES 8 alone and shares nothing with the port.
 //! It is timed too (tools/bench): digits go by tables, buffers are kept from line to line and nothing is formatted word by word,
 //! so that a whole job's time is the unit's and a reasonable driver's.
 
@@ -17,7 +17,7 @@ pub enum Event<'a> {
     Screen(&'a [u8]),
 }
 
-/// Each completed command, each refused line, and last the block's first 13 bytes.
+/// RULES 8.5: each completed command and each refused line, and then the head of the block.
 pub fn replay(input: &mut dyn BufRead, out: &mut dyn Write) -> io::Result<()> {
     let mut driven = Driven::new();
     let (mut line, mut bytes, mut text) = (Vec::new(), Vec::new(), Vec::new());

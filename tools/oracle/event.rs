@@ -1,4 +1,4 @@
-//! What a log is made of (document 01, "Pulses, verdict, log"): the writes of a `01` line or the screen of a `02` line.
+//! What a log is made of (RULES 8.2): the writes of a `01` line or the screen of a `02` line.
 
 use crate::shrink::{Bytes, Fails, List, Shrink};
 

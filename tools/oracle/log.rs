@@ -1,5 +1,5 @@
 //! The Rust driven by a log: `log replay` and `log plate` read one on standard input and print what the port's program of
-//! that name must print (document 01, "Pulses, verdict, log"); `log ppm` prints the picture as a Portable Pixmap.
+//! that name must print (RULES 8.5 and 8.6); `log ppm` prints the picture as a Portable Pixmap.
 
 // the oracle stands ready for more than a log asks of it
 #![allow(dead_code, unused_imports)]

@@ -1,14 +1,14 @@
-//! V1 to V6, read from document 01 alone ("The unit block"), clause by clause. It shares nothing with the port's check
+//! V1 to V6, read from RULES 1.6 to 1.12 alone, clause by clause. It shares nothing with the port's check
 //! or with the generator, so that each can be held to it.
 
 use crate::block::*;
 
-/// The count of a command by its first byte (document 01, "A write").
+/// The count of a command by its first byte (RULES 3.8).
 pub fn count(first: u8) -> u8 {
     if first / 8 >= 0x1E { 1 } else { first & 7 }
 }
 
-/// The first clause that a block of 30,020 bytes breaks, in document 01's order.
+/// The first clause that a block of 30,020 bytes breaks, in the order of RULES.
 pub fn check(block: &[u8]) -> Result<(), &'static str> {
     assert_eq!(block.len(), LEN);
     clauses(block)

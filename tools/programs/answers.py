@@ -21,11 +21,11 @@ def hexed(data):
 
 
 def forms():
-    """Logs and what `replay` prints of them, read off document 01's sentences and the decisions on a log's form."""
+    """Logs and what `replay` prints of them, read off RULES 8 and 10.2."""
     black = hexed(b"\x01" + pulses(MASK_BLACK))
     refused = lambda *numbers: b"".join(b"line %d: 7\n" % n for n in numbers)
-    yield "document 01: 01003020", b"01003020", b"00000001000100000101000000\n"
-    yield "document 01: B9 02", black, hexed(MASK_BLACK) + b"\n02000001010000000001000000\n"
+    yield "RULES 8.5: 01003020", b"01003020", b"00000001000100000101000000\n"
+    yield "RULES 10.2: B9 02", black, hexed(MASK_BLACK) + b"\n02000001010000000001000000\n"
     yield "B9 02 with LF", black + b"\n", hexed(MASK_BLACK) + b"\n02000001010000000001000000\n"
     yield "nothing", b"", HEAD
     yield "one LF", b"\n", refused(1) + HEAD

@@ -1,5 +1,5 @@
--- The attribute map: 20 by 18 cells, one palette number each (Pan Docs, Attributes). It is held as eighteen rows of twenty, and stands
--- in the block as ninety bytes, five a row, four cells to a byte, the leftmost in the high pair (document 01, The unit block).
+-- The attribute map: a palette number for each of 20 by 18 cells (RULES 1.3; Pan Docs, Attributes). It is held as eighteen rows of twenty,
+-- and stands in the block packed, as ninety bytes, five a row.
 use mathlib.Core.Path.{_≡_}
 use mathlib.Core.List.{List, [], _∷_}
 use Prim.Native.Nat.{ℕ, zero, suc, _+_, _*_, _/_, _%_, _<_}

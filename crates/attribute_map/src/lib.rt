@@ -1,5 +1,5 @@
-// The attribute map by value, eighteen rows of twenty palette numbers, and its ninety packed bytes.
-// Document 01, The unit block; Pan Docs, Attributes. The commands that change a map are in the crate `attributes`.
+// The attribute map by value, a palette number for each cell of eighteen rows of twenty, and its ninety packed bytes.
+// RULES 1.3; Pan Docs, Attributes. The commands that change a map are in the crate `attributes`.
 ghost use mathlib.Core.Path.{_≡_};
 ghost use Prim.Native.Nat.{_+_, _*_, _%_};
 ghost use lib.ListN.{length};

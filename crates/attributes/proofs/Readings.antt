@@ -1,4 +1,4 @@
--- Document 01's own sentences on the attribute commands, as laws of the definitions: each is a test that comes out one way.
+-- RULES 4.5 to 4.8, on the attribute commands, as laws of the definitions: each is a test that comes out one way.
 use mathlib.Core.Path.{_≡_, refl, sym, _∙_}
 use mathlib.Core.Bool.{Bool, true, false, cond, not-eq-not}
 use mathlib.Core.List.{List}
@@ -54,7 +54,7 @@ module _ (s : BlkSet) (x y : ℕ) where
   unfolding blkCell blkPick
   blk-inside old (a, b, c, d) = rw (lt-ltb (s .x1) x a, lt-ltb x (s .x2) b, lt-ltb (s .y1) y c, lt-ltb y (s .y2) d)
 
-  -- the rest of the closed rectangle is the line
+  -- on the line: within the corners, and not inside
   pub blk-line : (old : ℕ) → Closed → (Inside → ⊥) → blkCell s x y old ≡ onLine (s .control) (s .palettes) old
   unfolding blkCell blkPick
   blk-line old (a, b, c, d) h = rw (inside-not h, le-leb (s .x1) x a, le-leb x (s .x2) b, le-leb (s .y1) y c, le-leb y (s .y2) d)
@@ -175,7 +175,7 @@ module _ (d : List ℕ) where
 
 -- ---- ATTR_CHR
 
--- the step: along rows after x + 1 >= 20 the next row's start, down columns after y + 1 >= 18 the next column's
+-- the step: along a row behind column 19 comes the next row's start, down a column behind row 17 the next column's
 module _ (s : Spot) where
   pub along-next : s .x + 1 < columns → next true s ≡ record { x = s .x + 1; y = s .y }
   unfolding next
@@ -193,7 +193,7 @@ module _ (s : Spot) where
   unfolding next
   down-ends h = rw (le-ltb (s .y + 1) rows h)
 
-  -- places off the map use up a pair
+  -- a place off the map changes no cell, and its pair is used up
   pub off-below : (v : ℕ) (m : List (List ℕ)) → rows ≤ s .y → putAt s v m ≡ m
   unfolding putAt
   off-below v m h = rw (le-ltb (s .y) rows h, and-false (ltb (s .x) columns))

@@ -1,4 +1,4 @@
--- Worked examples of the attribute commands, computed: document 01's own, and one for each rule that they leave out. Where a map `m`
+-- Worked examples of the attribute commands, computed: those of RULES 10, and one for each rule that they leave out. Where a map `m`
 -- stands in one, it holds whatever the map held.
 use mathlib.Core.Path.{_≡_, refl}
 use mathlib.Core.Bool.{_&&_, cond}
@@ -20,12 +20,12 @@ use Rattle.attribute_map.proofs.Painting.{stored}
 
 -- ---- ATTR_BLK
 
--- one set: control 1, byte 02, corners (3,3) (3,3): that cell only, to 2
+-- one set that is set inside alone, with one corner twice: this cell is its line, and follows the inside
 pub blk-one-cell : (m : List (List ℕ)) → blkMap (0x21 ∷ 1 ∷ 1 ∷ 0x02 ∷ 3 ∷ 3 ∷ 3 ∷ 3 ∷ replicate 8 0) m ≡ grid (λ x y. cond (eqb x 3 && eqb y 3) 2 (cell m x y))
 unfolding blkMap setAt blkCell blkPick onLine bitOf steps grid rowsFrom tab tabFrom
 blk-one-cell m = refl
 
--- control 4, byte 10, x1 5, x2 4: all to 1
+-- one set that is set outside alone, with its corners crossed: every cell is outside
 pub blk-all : (m : List (List ℕ)) → blkMap (0x21 ∷ 1 ∷ 4 ∷ 0x10 ∷ 5 ∷ 0 ∷ 4 ∷ 17 ∷ replicate 8 0) m ≡ grid (λ x y. 1)
 unfolding blkMap setAt blkCell blkPick onLine bitOf steps grid rowsFrom tab tabFrom
 blk-all m = refl
@@ -78,7 +78,7 @@ div-past = refl
 
 -- ---- ATTR_CHR
 
--- at (19, 17) of count 2: one cell
+-- two cells from the map's last one on: the second is off the map
 pub chr-one-cell : (m : List (List ℕ)) → chrMap (0x39 ∷ 19 ∷ 17 ∷ 2 ∷ 0 ∷ 0 ∷ 0xF0 ∷ replicate 9 0) m ≡ stored m 19 17 3
 unfolding chrMap placeOf next putAt pairOfData pairOf wordAt word steps
 chr-one-cell m = refl

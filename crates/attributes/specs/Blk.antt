@@ -1,4 +1,4 @@
--- ATTR_BLK: rectangles. Pan Docs, Attributes; document 01, Commands, 04.
+-- ATTR_BLK: rectangles. RULES 4.5; Pan Docs, Attributes.
 use mathlib.Core.Bool.{Bool, _&&_, cond}
 use mathlib.Core.List.{List}
 use Prim.Native.Nat.{ℕ, _+_, _-_, _*_, _/_, min}
@@ -22,13 +22,13 @@ inside s x y = strictly (s .x1) x (s .x2) && strictly (s .y1) y (s .y2)
 abbrev pub closed : BlkSet → ℕ → ℕ → Bool
 closed s x y = within (s .x1) x (s .x2) && within (s .y1) y (s .y2)
 
--- a cell of the line, which held `old`: control bit 1 sets it; else it follows whichever one of inside (bit 0) and outside (bit 2) is set alone
+-- a cell of the line, which held `old`: control bit 1 sets it; else, if just one of inside (bit 0) and outside (bit 2) is set, it follows that one
 unfoldable pub onLine : ℕ → ℕ → ℕ → ℕ
 onLine control palettes old =
     cond (bitOf 1 control) (paletteAt 2 palettes)
     (cond (bitOf 0 control) (cond (bitOf 2 control) old (paletteAt 0 palettes)) (cond (bitOf 2 control) (paletteAt 4 palettes) old))
 
--- a cell by where it lies: inside, on the line (the rest of the closed rectangle), or outside
+-- a cell by where it lies: inside, on the line (closed and not inside), or outside
 unfoldable pub blkPick : ℕ → ℕ → Bool → Bool → ℕ → ℕ
 blkPick control palettes inner covered old =
     cond inner (cond (bitOf 0 control) (paletteAt 0 palettes) old)
@@ -37,7 +37,7 @@ blkPick control palettes inner covered old =
 unfoldable pub blkCell : BlkSet → ℕ → ℕ → ℕ → ℕ
 blkCell s x y old = blkPick (s .control) (s .palettes) (inside s x y) (closed s x y) old
 
--- set i of a command: control, palettes, x1, y1, x2, y2, from byte 2 on
+-- set i of a command: six bytes each, from byte 2 on
 unfoldable pub setAt : List ℕ → ℕ → BlkSet
 setAt d i =
     let at = 2 + 6 * i in

@@ -1,4 +1,4 @@
--- ATTR_CHR: cell after cell. Pan Docs, Attributes; document 01, Commands, 07.
+-- ATTR_CHR: cell after cell. RULES 4.8; Pan Docs, Attributes.
 use mathlib.Core.Bool.{Bool, true, false, _&&_, cond}
 use mathlib.Core.List.{List, []}
 use Prim.Native.Nat.{ℕ, zero, suc, _+_, _-_, _*_, _/_, _%_, min}

@@ -1,5 +1,5 @@
 -- What the four attribute commands share: their bytes d, the fields of a byte, and a map after n steps.
--- Document 01, Commands; Pan Docs, Attributes.
+-- RULES 4.1; Pan Docs, Attributes.
 use mathlib.Core.List.{List}
 use Prim.Native.Nat.{ℕ, zero, suc, _/_, _%_, _^_, _≤_}
 use lib.ListN.{length}

@@ -1,4 +1,4 @@
--- ATTR_DIV: the map in two halves and the line between. Pan Docs, Attributes; document 01, Commands, 06.
+-- ATTR_DIV: the map in two halves and the line between. RULES 4.7; Pan Docs, Attributes.
 use mathlib.Core.Bool.{cond}
 use mathlib.Core.List.{List}
 use Prim.Native.Nat.{ℕ}

@@ -1,4 +1,4 @@
--- ATTR_LIN: whole rows and columns. Pan Docs, Attributes; document 01, Commands, 05.
+-- ATTR_LIN: whole rows and columns. RULES 4.6; Pan Docs, Attributes.
 use mathlib.Core.Bool.{cond}
 use mathlib.Core.List.{List}
 use Prim.Native.Nat.{ℕ, _+_, _-_, _%_, min}

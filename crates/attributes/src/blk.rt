@@ -85,7 +85,7 @@ fn within(a: u8, p: usize, b: u8) -> bool
     bits::wide(a) <= p && p <= bits::wide(b)
 }
 
-// A cell that held `old`: inside, on the line (the rest of the closed rectangle), or outside.
+// A cell that held `old`: inside, on the line (covered and not inner), or outside.
 fn pick(control: u8, palettes: u8, inner: bool, covered: bool, old: u8) -> u8
     ensures { λ r. ⌜ r ≡ blkPick control palettes inner covered old ⌝ }
 {
@@ -104,7 +104,7 @@ fn pick(control: u8, palettes: u8, inner: bool, covered: bool, old: u8) -> u8
     old
 }
 
-// With the line unset it follows whichever one of inside and outside is set alone.
+// With the line unset, and just one of inside and outside set, it follows that one.
 fn on_line(control: u8, palettes: u8, old: u8) -> u8
     ensures { λ r. ⌜ r ≡ onLine control palettes old ⌝ }
 {

@@ -1,5 +1,5 @@
 // The attribute commands on the map by value, eighteen rows of twenty: ATTR_BLK, ATTR_LIN, ATTR_DIV, ATTR_CHR.
-// Document 01, Commands; Pan Docs, Attributes. The map itself and its packed bytes are in the crate `attribute_map`.
+// RULES 4.5 to 4.8; Pan Docs, Attributes. The map itself and its packed bytes are in the crate `attribute_map`.
 mod blk;
 mod chr;
 mod div;

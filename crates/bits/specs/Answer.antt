@@ -1,4 +1,4 @@
--- What a call answers in document 01's terms: the number of a refusal (Refusals by number), or the answer's value.
+-- What a call answers: the number of a refusal (RULES 2.1), or the answer's value.
 use Prim.Native.Nat.{ℕ}
 
 pub data Answer (A : Type 0) : Type 0 where

@@ -1,5 +1,5 @@
--- When a contract leaves one outcome. Document 01, What the proofs owe a reader. The law is proofs/Determined.
--- An outcome is the answer and every lent byte after the call. What a contract tells of it is the call's own `Learnt k a r e`, read by the
+-- When a contract leaves one outcome. RULES 9.2. The law is proofs/Determined.
+-- An outcome is the answer, and what the call leaves in every lent byte. What a contract tells of it is the call's own `Learnt k a r e`, read by the
 -- compiler off the `ensures` lines: a is the arguments and e the parameters after the call, each in order, r the answer, k the lifetimes.
 use mathlib.Core.Path.{_≡_}
 

@@ -1,5 +1,5 @@
 -- Eight bytes as one number of 64 bits, the first one lowest.
--- Document 01, The unit block: "Words are little-endian"; so half a packet stands there, and so eight writes are looked at at once.
+-- RULES 1.5: so half a packet stands in the block, and so eight writes are looked at at once.
 use Prim.Native.Nat.{ℕ, _+_, _*_}
 use mathlib.Core.List.{List}
 use lib.ListN.{getD}

@@ -1,6 +1,5 @@
 -- Four numbers of two bits in a byte, the first in the high pair: shades of a screen and palette numbers of an attribute map.
--- Document 01, Carried over: "four to a byte, first in the high bit pair"; The unit block: "palette numbers pack as shades do".
--- Pan Docs, Attributes: four cells to a byte, the leftmost in bits 6-7.
+-- RULES 1.1. Pan Docs, Attributes, has the cells of a map so.
 use Prim.Native.Nat.{ℕ, _+_, _-_, _*_, _/_, _%_, _^_}
 
 -- pair j of a packed byte

@@ -1,6 +1,5 @@
 -- Eight pixels of a row as two plane bytes.
--- Document 01, Screens, border and picture: "each tile eight rows of (low plane, high plane), leftmost pixel bit 7".
--- Pan Docs, VRAM transfers: the same of a tile's two bytes a row.
+-- RULES 5.3. Pan Docs, VRAM transfers: the same of a tile's two bytes a row.
 use Prim.Native.Nat.{ℕ, _+_, _*_, _%_}
 use mathlib.Core.Bool.{cond}
 use lib.Dec.{ltb}

@@ -1,5 +1,5 @@
 -- A word of sixteen bits as two bytes, the low one first.
--- Document 01, The unit block: "Words are little-endian". Pan Docs, Palettes: a colour is a word, little-endian.
+-- RULES 1.1. Pan Docs, Palettes, has a colour so.
 use Prim.Native.Nat.{ℕ, _+_, _*_, _/_, _%_}
 use mathlib.Core.List.{List}
 use lib.ListN.{getD}

@@ -1,4 +1,4 @@
--- Nothing but zeros, as document 01, The unit block, asks of whatever is not in use.
+-- Nothing but zeros, as V2, V3, V5 and V6 ask of whatever is not in use (RULES 1.7 to 1.11).
 use Prim.Native.Nat.{ℕ}
 use mathlib.Core.Bool.{Bool, true, _&&_}
 use mathlib.Core.List.{List, [], _∷_}

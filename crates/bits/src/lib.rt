@@ -1,5 +1,5 @@
 // The leaves that every other crate stands on: words, eight bytes as one, packed pairs, plane bytes, copying into a part, a test for zeros.
-// By shifts and masks (document 01, Which language form to use). The meaning is in specs/, the laws in proofs/.
+// By shifts and masks (docs/DECISIONS.md, Leaves over bytes). The meaning is in specs/, the laws in proofs/.
 ghost use mathlib.Core.Path.{_≡_};
 ghost use Prim.Native.Nat.{_+_, _<_, _≤_};
 ghost use lib.ListN.{length, replicate};

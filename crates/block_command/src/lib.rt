@@ -1,5 +1,5 @@
 // A completed command carried out on the block: which part it gets, and what else it changes there.
-// Document 01, Commands; Rust: `dispatch_command`. The rules are `Carry` of the crate `rules`; what each command computes is in the crates
+// RULES 4; Rust: `dispatch_command`. The rules are `Carry` of the crate `rules`; what each command computes is in the crates
 // `palettes`, `attributes` and `commands`. Every worker requires a valid block and leaves one.
 ghost use mathlib.Core.Path.{_≡_};
 ghost use Prim.Native.Nat.{_*_, _≤_, _<_};

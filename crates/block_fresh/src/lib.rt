@@ -1,5 +1,4 @@
-// The fresh units, into a lent block. Document 01, The unit block: "`new` is all zero but: byte 9 = 1, preset 67BF 265B 10B5 2866, each
-// system palette 7FFF 56B5 294A 0000. `post_boot` also has bytes 3 and 4 = 1." The meaning is `Fresh` in the crate `layout`.
+// The fresh units, `new` and `post_boot`, into a lent block. RULES 1.13. The meaning is `Fresh` in the crate `layout`.
 ghost use mathlib.Core.Path.{_≡_};
 ghost use mathlib.Core.List.{[], _∷_};
 ghost use Prim.Native.Nat.{_+_, _≤_};

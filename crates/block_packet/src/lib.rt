@@ -1,5 +1,5 @@
 // The packet that is coming in, as it stands in the block and as the receiver has it: sixteen bytes, the lowest first, and two words.
-// Document 01, The unit block ("16 current packet (16)"). The meaning of the bytes is `valueOf` and `bytesOf`.
+// RULES 1.5. The meaning of the bytes is `valueOf` and `bytesOf`.
 ghost use mathlib.Core.Path.{_≡_};
 ghost use Prim.Native.Nat.{_+_, _≤_};
 ghost use lib.ListN.{length};

@@ -1,5 +1,5 @@
 -- What is drawn of a unit: its parts as the picture takes them, and the colours, the row and the picture that they give.
--- Document 01, Screens, border and picture.
+-- RULES 5.5 and 6.
 use Prim.Native.Nat.{ℕ}
 use mathlib.Core.List.{List, _++_}
 use mathlib.Core.Option.{Option}

@@ -1,4 +1,4 @@
-// The workers: what is drawn of a valid block (document 01, Screens, border and picture). They refuse nothing, and each hands the block's
+// The workers: what is drawn of a valid block (RULES 6). They refuse nothing, and each hands the block's
 // parts on to the crate that has the rule.
 ghost use mathlib.Core.Path.{_≡_};
 ghost use Prim.Native.Nat.{_<_, _≤_};

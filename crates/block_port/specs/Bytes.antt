@@ -1,4 +1,4 @@
--- The port's bytes of the block: what the code reads of a unit and puts back. Document 01, The unit block: bytes 1 and 3 to 8, and the
+-- The port's bytes of the block: what the code reads of a unit and puts back. RULES 1.4 and 1.5: bytes 1 and 3 to 8, and the
 -- current packet from byte 16 on. The packet store is a part of its own.
 use Prim.Native.Nat.{ℕ, zero, suc, _*_, _/_}
 use mathlib.Core.List.{List, _++_}
@@ -28,7 +28,7 @@ putLines l b = set (set (set b indexAt (l .index)) p15At (flag (l .p15))) bothAt
 
 -- ---- the command buffer
 
--- "answer its 16 to 112 bytes": they stand at the buffer's front, and its tail is kept. "Other writes .. leave the command buffer untouched."
+-- RULES 3.9: a command's bytes stand at the buffer's front, and its tail is kept; where there is no command the buffer stays as it is
 unfoldable pub handed : Option (List ℕ) → List ℕ → List ℕ
 handed none buffer = buffer
 handed (some c) buffer = c ++ drop (length c) buffer

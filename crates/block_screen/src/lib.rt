@@ -1,5 +1,5 @@
 // A screen on the block: it becomes the live capture, and what is pending comes nearer or lands.
-// Document 01, Screens, border and picture; Rust: `update_screen`. The rules are `Screen` of the crate `rules`; the page and the landings are
+// RULES 5; Rust: `update_screen`. The rules are `Screen` of the crate `rules`; the page and the landings are
 // in the crate `transfer`. Every worker requires a valid block and leaves one.
 ghost use mathlib.Core.Path.{_≡_};
 ghost use lib.ListN.{length};

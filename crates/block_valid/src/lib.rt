@@ -1,5 +1,5 @@
-// Whether a block is valid: V1 to V6 of document 01, The unit block, each by its own name, and all of them together.
-// The meaning is `Valid` in the crate `layout`; V3's sentences are `Valid` in the crate `receiver`.
+// Whether a block is valid: V1 to V6, RULES 1.6 to 1.12, each by its own name, and all of them together.
+// The meaning is `Valid` in the crate `layout`; what V3 says of each stage is `Valid` in the crate `receiver`.
 ghost use mathlib.Core.Path.{_≡_};
 ghost use Prim.Native.Nat.{_^_, _≤_};
 ghost use mathlib.Core.Bool.{true, cond};
@@ -16,7 +16,7 @@ use bits::wide;
 use block_packet::half;
 use receiver::packet_count;
 
-// "Valid means all of": a block of another length isn't valid.
+// All six; a block of another length isn't valid.
 pub fn valid(block: &[u8]) -> bool
     ensures { λ r. ⌜ r ≡ spec.valid (now (block .entry)) ⌝ }
 {
@@ -41,7 +41,7 @@ pub fn valid(block: &[u8]) -> bool
     v6(block)
 }
 
-// "Bytes 0 and 2 at most 3; byte 1 has no bit outside byte 2."
+// Mask mode and joypad mask are 3 or less, and the mask has every bit that the index has.
 pub fn v1(block: &[u8]) -> bool
     requires { ⌜ length (now block) ≡ blockBytes ⌝ }
     ensures { λ r. ⌜ r ≡ spec.v1 (now (block .entry)) ⌝ }
@@ -57,7 +57,7 @@ pub fn v1(block: &[u8]) -> bool
     index & pads == index
 }
 
-// "Bytes 3, 4, 9, 12 are 0 or 1; byte 4 is 1 only if byte 3 is. Bytes 13 to 15 are zero."
+// The four flags are 0 or 1, both lines are high only if P15 is, and the spare bytes hold nothing.
 pub fn v2(block: &[u8]) -> bool
     requires { ⌜ length (now block) ≡ blockBytes ⌝ }
     ensures { λ r. ⌜ r ≡ spec.v2 (now (block .entry)) ⌝ }
@@ -87,7 +87,7 @@ fn lines_agree(p15: u8, both: u8) -> bool
     if both == 1 { p15 == 1 } else { true }
 }
 
-// "Idle: .. Receiving: .. Awaiting: .. No other receiver number."
+// By the receiver's stage, which is 0, 1 or 2.
 pub fn v3(block: &[u8]) -> bool
     requires { ⌜ length (now block) ≡ blockBytes ⌝ }
     ensures { λ r. ⌜ r ≡ spec.v3 (now (block .entry)) ⌝ }
@@ -105,7 +105,7 @@ pub fn v3(block: &[u8]) -> bool
     false
 }
 
-// "Idle: 6, 7, 8 and 16 to 143 zero."
+// An idle receiver holds nothing.
 fn idle(block: &[u8]) -> bool
     requires { ⌜ length (now block) ≡ blockBytes ⌝ }
     ensures { λ r. ⌜ r ≡ v3At Idle (load (now (block .entry)) .port .rx) (load (now (block .entry)) .port .store) ⌝ }
@@ -125,7 +125,7 @@ fn idle(block: &[u8]) -> bool
     all_zero(&block[parts::STORE..parts::PRESET])
 }
 
-// "Receiving: bit index at most 128, packet bits at and past it zero. .. Receiving with received 0: expected 0 and store zero."
+// Up to 128 bits of the packet are in, and none of those to come is set; on the first packet nothing else is held.
 fn receiving(block: &[u8]) -> bool
     requires { ⌜ length (now block) ≡ blockBytes ⌝ }
     ensures { λ r. ⌜ r ≡ v3At Receiving (load (now (block .entry)) .port .rx) (load (now (block .entry)) .port .store) ⌝ }
@@ -150,7 +150,7 @@ fn receiving(block: &[u8]) -> bool
     all_zero(&block[parts::STORE..parts::PRESET])
 }
 
-// "Awaiting: bit index and current packet zero."
+// Between two packets no bit is in.
 fn awaiting(block: &[u8]) -> bool
     requires { ⌜ length (now block) ≡ blockBytes ⌝ }
     ensures { λ r. ⌜ r ≡ v3At Awaiting (load (now (block .entry)) .port .rx) (load (now (block .entry)) .port .store) ⌝ }
@@ -181,7 +181,7 @@ fn clear_from(lo: u64, hi: u64, bits: u8) -> bool
     lo >> bits == 0
 }
 
-// "1 <= received < expected <= 7, expected equals the count of byte 32, store zero past its first 16 times received bytes."
+// Some packets are in and some are due, as the store's first byte counts them, and the store holds no more than those.
 fn some_in(block: &[u8]) -> bool
     requires { ⌜ length (now block) ≡ blockBytes ⌝ }
     ensures { λ r. ⌜ r ≡ later (load (now (block .entry)) .port .rx .expected) (load (now (block .entry)) .port .rx .received) (load (now (block .entry)) .port .store) ⌝ }
@@ -204,7 +204,7 @@ fn some_in(block: &[u8]) -> bool
     all_zero(&block[past..parts::PRESET])
 }
 
-// "Countdown and kind both 0, or countdown 1 to 3 and kind 0 to 4."
+// Nothing is pending, or one of the five kinds is, with 1, 2 or 3 screens to go.
 pub fn v4(block: &[u8]) -> bool
     requires { ⌜ length (now block) ≡ blockBytes ⌝ }
     ensures { λ r. ⌜ r ≡ spec.v4 (now (block .entry)) ⌝ }
@@ -220,7 +220,7 @@ pub fn v4(block: &[u8]) -> bool
     kind <= 4
 }
 
-// "Preset bytes zero if byte 9 is 0."
+// A preset that is not in force is all zeros.
 pub fn v5(block: &[u8]) -> bool
     requires { ⌜ length (now block) ≡ blockBytes ⌝ }
     ensures { λ r. ⌜ r ≡ spec.v5 (now (block .entry)) ⌝ }
@@ -231,7 +231,7 @@ pub fn v5(block: &[u8]) -> bool
     all_zero(&block[parts::PRESET..parts::PALETTES])
 }
 
-// "Mask 1 needs byte 12 = 1; masks 2 and 3 need it 0; mask 0 allows either. If byte 12 is 0 the frozen capture is zero."
+// A frozen capture must be there in mode 1, may be there in mode 0, is not there in modes 2 and 3, and is then all zeros.
 pub fn v6(block: &[u8]) -> bool
     requires { ⌜ length (now block) ≡ blockBytes ⌝ }
     ensures { λ r. ⌜ r ≡ spec.v6 (now (block .entry)) ⌝ }

@@ -1,5 +1,5 @@
 // Writes on a valid block: many in a row up to the next command, or one alone. The receiver is held in locals, and goes back into the block
-// once, where a command is complete or the writes end. Document 01, A write. The meaning is `played` in specs/Play, and the rules of a write.
+// once, where a command is complete or the writes end. RULES 3.10. The meaning is `played` in specs/Play, and the rules of a write.
 ghost use mathlib.Core.Path.{_≡_};
 ghost use Prim.Native.Nat.{_≤_};
 ghost use lib.ListN.{length};

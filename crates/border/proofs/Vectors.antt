@@ -1,4 +1,4 @@
--- Document 01's examples and small ones, computed: the definitions say what they are meant to.
+-- Small examples, computed: the definitions say what they are meant to.
 -- Assumes nothing.
 use mathlib.Core.Path.{_≡_, refl}
 use mathlib.Core.Bool.{true, false}

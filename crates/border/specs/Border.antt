@@ -1,6 +1,5 @@
 -- The border's colour at a pixel of the picture, or none where it is transparent.
--- Document 01, Screens, border and picture: "Transparent if tile >= 256, palette not 4 to 6, or colour index 0"; Pan Docs, Border (PCT_TRN), whose
--- palette 7 isn't drawn, as in the Rust.
+-- RULES 6.1 and 6.3; Pan Docs, Border (PCT_TRN), whose palette 7 isn't drawn, as in the Rust.
 use Prim.Native.Nat.{ℕ, _+_, _-_, _*_, _/_, _%_}
 use mathlib.Core.Bool.{Bool, cond, _&&_}
 use mathlib.Core.List.{List}

@@ -1,5 +1,5 @@
 -- A border tile: 8 by 8 colour indices of four bits.
--- Document 01, Screens, border and picture: "Index planes sit at twice the row plus 0, 1, 16 or 17"; Pan Docs, Border (CHR_TRN).
+-- RULES 6.2; Pan Docs, Border (CHR_TRN).
 use Prim.Native.Nat.{ℕ, _+_, _-_, _*_}
 use mathlib.Core.Bool.{cond}
 use mathlib.Core.List.{List, []}
@@ -8,11 +8,11 @@ use lib.ListN.{length, getD, take, drop}
 use Rattle.parts.specs.Parts.{tilesBytes}
 use Rattle.bits.specs.Bit.{bitAt}
 
--- tile n's 32 bytes of the lent tiles; the empty part exactly if n is over 255 or the tiles are not 8,192 bytes (Refusals by number)
+-- the part of the tiles that is tile n; it is empty where there is no such tile, or the tiles have another length (RULES 2.7)
 unfoldable pub tilePart : List ℕ → ℕ → List ℕ
 tilePart tiles n = cond (eqb (length tiles) tilesBytes) (cond (leb n 255) (take 32 (drop (n * 32) tiles)) []) []
 
--- the colour index at a column of a row of a tile's 32 bytes, the leftmost pixel in bit 7
+-- the colour index at a column of a row of a tile's 32 bytes, bit by bit; the leftmost column has bit 7 of each
 unfoldable pub indexIn : List ℕ → ℕ → ℕ → ℕ
 indexIn tile row column =
     bitAt (7 - column) (getD tile (row * 2) 0)

@@ -1,4 +1,4 @@
-// The border: a tile's part, a map entry, the colour at a pixel (document 01, Screens, border and picture). Rust: `SgbBorder`.
+// The border: a tile's part, a map entry, the colour at a pixel (RULES 6.1 to 6.3). Rust: `SgbBorder`.
 use colour::BorderMapEntry;
 use colour::Rgb555;
 ghost use mathlib.Core.Path.{_≡_};
@@ -73,7 +73,7 @@ pub fn flipped(flip: bool, k: usize) -> usize
     if flip { 7 - k } else { k }
 }
 
-// A tile's 32 bytes of the lent tiles. The empty part exactly if the number is over 255 or the tiles are not 8,192 bytes.
+// The part of the tiles that is tile n. It is empty if n is over 255 or the tiles don't have 8,192 bytes, and only then.
 pub fn tile(tiles: &[u8], n: usize) -> &[u8]
     ensures { λ r. ⌜ now r ≡ tilePart (now (tiles .entry)) n ⌝ }
 {
@@ -87,7 +87,7 @@ pub fn tile(tiles: &[u8], n: usize) -> &[u8]
     &tiles[at..at + 32]
 }
 
-// The colour index in a tile: planes 0 and 1 by row, then planes 2 and 3.
+// The colour index in a tile: its low two bits from the tile's first half, its high two from the second.
 fn index_in(tile: &[u8], row: usize, column: usize) -> usize
     requires { ⌜ (length (now tile) ≡ 32) × (row < 8) × (column < 8) ⌝ }
     ensures { λ r. ⌜ (r ≡ indexIn (now (tile .entry)) row column) × (r < 16) ⌝ }

@@ -1,6 +1,5 @@
 -- A colour word and the colour that a screen shows for it.
--- Pan Docs, Palettes: bits 0-4 red, 5-9 green, 10-14 blue; bit 15 is unused. Document 01, Screens, border and picture:
--- "To 8 bits: GAMMA_RAMP", whose 32 numbers are the Rust's.
+-- RULES 6.8; Pan Docs, Palettes. The ramp's 32 numbers are the Rust's `GAMMA_RAMP`.
 use Prim.Native.Nat.{ℕ, _/_, _%_}
 use mathlib.Core.List.{List, [], _∷_}
 use lib.ListN.{getD}

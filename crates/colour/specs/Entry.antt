@@ -1,5 +1,5 @@
 -- The fields of a border map word.
--- Document 01, Screens, border and picture: "Map word: tile bits 0-9, palette 10-12, flips 14 (x) and 15 (y)"; Pan Docs, Border.
+-- RULES 6.1; Pan Docs, Border.
 use Prim.Native.Nat.{ℕ, _/_, _%_}
 use mathlib.Core.Bool.{Bool}
 use Rattle.bits.specs.Bit.{bitOf}

@@ -1,5 +1,5 @@
-// A colour word and a map word: both sixteen bits, and kept apart, so that a map word is never painted
-// (document 01, Port order and changes of shape). Carried over: `Rgb555`, `GAMMA_RAMP`, `BorderMapEntry`.
+// Colour words and map words (RULES 6.8 and 6.1): both have sixteen bits, and their types keep them apart, so that no map word gets
+// painted. Carried over: `Rgb555`, `GAMMA_RAMP`, `BorderMapEntry`.
 ghost use mathlib.Core.Path.{_≡_};
 ghost use Prim.Native.Nat.{_<_};
 ghost use Rattle.bits.specs.Word.{word};

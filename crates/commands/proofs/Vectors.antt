@@ -1,4 +1,4 @@
--- MLT_REQ at the greatest index, and commands of each sort decoded, computed. Document 01's own examples are in the crate `pairs`.
+-- MLT_REQ at the greatest index, and commands of each sort decoded, computed. The examples of RULES 10.1 are in the crate `pairs`.
 use mathlib.Core.Path.{_≡_, refl}
 use mathlib.Core.Bool.{true}
 use mathlib.Core.List.{List, _∷_}

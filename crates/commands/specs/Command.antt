@@ -1,6 +1,6 @@
 -- A completed command, decoded from its bytes d alone. It is plain or fixed by its constructor: a fixed one reads or sets what screens
 -- change (the live capture, the system palettes, the attribute files, the pending transfer), a plain one does not.
--- Document 01, Commands; Pan Docs, Command summary.
+-- RULES 4.1 and 4.2; Pan Docs, Command summary.
 use mathlib.Core.Bool.{cond}
 use mathlib.Core.List.{List, [], _∷_}
 use Prim.Native.Nat.{ℕ, _%_}

@@ -1,4 +1,4 @@
--- The 45 attribute files, 90 packed bytes each, and the map after one is asked for (document 01, Commands, 0A and 16; Pan Docs, Attributes).
+-- The 45 attribute files, 90 packed bytes each, and the map after one is asked for (RULES 4.4 and 4.9; Pan Docs, Attributes).
 use mathlib.Core.Bool.{cond}
 use mathlib.Core.List.{List}
 use Prim.Native.Nat.{ℕ, _*_, _%_}

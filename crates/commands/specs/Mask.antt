@@ -1,4 +1,4 @@
--- The mask mode after PAL_SET or ATTR_SET (document 01, Commands, 0A and 16; Pan Docs, System and multiplayer). MASK_EN sets the mode that its
+-- The mask mode after PAL_SET or ATTR_SET (RULES 4.4 and 4.9; Pan Docs, System and multiplayer). MASK_EN sets the mode that its
 -- byte names (Command: `masking`).
 use mathlib.Core.Bool.{cond}
 use Prim.Native.Nat.{ℕ}

@@ -1,5 +1,5 @@
-// The two calls that hand back a part of lent bytes, `screen::displayed_screen` and `border::tile`. A part can't be handed back to C,
-// so they tell where it stands (specs/Parts), with no copying; none is the empty part.
+// `screen::displayed_screen` and `border::tile`, which hand back a part of what they are lent (RULES 2.7). A part can't be handed back to C,
+// so here they tell where it stands (specs/Parts), with no copying; none is the empty part.
 ghost use mathlib.Core.Path.{_≡_};
 ghost use Rattle.export_answers.specs.Coded.{optional};
 ghost use Rattle.export.specs.Parts.{capture, tileAt};

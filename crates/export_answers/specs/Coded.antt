@@ -1,4 +1,4 @@
--- How an answer crosses to C: one number of 32 bits. Document 01, Refusals by number: "A refusal answers the number alone."
+-- How an answer crosses to C: one number of 32 bits, of which a refusal is just its own number. RULES 2.8.
 --   the low byte   0 for a value, 1 to 127 a refusal by its number, 128 for an answer that is "none"
 --   the rest       the value, 0 where there is none
 -- So a call that can only be refused answers the refusal's number or 0, as `new`, `post_boot` and `check` do outright.

@@ -1,5 +1,5 @@
--- Bytes as text: two hexadecimal digits a byte, the high one first. Document 01, Pulses, verdict, log: a log is "lines of hexadecimal
--- (either case)"; what the programs print is upper-case.
+-- Bytes as text: two hexadecimal digits a byte, the high one first. RULES 8.2 and 8.5: a log's digits may be
+-- capitals or small letters; what the programs print has capitals.
 use Prim.Native.Nat.{ℕ, _+_, _-_, _*_, _/_, _%_}
 use mathlib.Core.Bool.{Bool, true, false, _&&_, cond}
 use mathlib.Core.Option.{Option, none, some}

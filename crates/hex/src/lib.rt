@@ -1,4 +1,4 @@
-// Hexadecimal text: what its digits spell, and bytes spelled out. Document 01, Pulses, verdict, log. The meaning is in specs/Hex.
+// Hexadecimal text: what its digits spell, and bytes spelled out. RULES 8.2 and 8.5. The meaning is in specs/Hex.
 ghost use mathlib.Core.Path.{_≡_};
 ghost use mathlib.Core.Bool.{true};
 ghost use mathlib.Core.List.{_∷_, []};

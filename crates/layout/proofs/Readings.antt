@@ -1,4 +1,4 @@
--- V1 and V5 of document 01 in plain numbers, both ways: what is asked of a block's bytes is just what the test says. And V3's fields are
+-- V1 and V5 (RULES 1.6 and 1.10) in plain numbers, both ways: what is asked of a block's bytes is just what the test says. And V3's fields are
 -- the ones that a block loads as.
 use mathlib.Core.Path.{_≡_, refl, sym, ap, _∙_}
 use mathlib.Core.Bool.{Bool, true, false, false≢true, not-eq-not}

@@ -1,4 +1,4 @@
--- The unit as its 30,020 bytes, and back. Document 01, The unit block.
+-- The unit as its 30,020 bytes, and back. RULES 1.4 and 1.5.
 use Prim.Native.Nat.{ℕ, _+_, _*_}
 use mathlib.Core.Bool.{Bool, cond}
 use mathlib.Core.List.{List, [], _∷_, _++_}
@@ -23,7 +23,7 @@ byte at b = getD b at 0
 abbrev pub isSet : ℕ → Bool
 isSet n = eqb n 1
 
--- "receiver (0 idle, 1 receiving, 2 awaiting)"
+-- the receiver's stage by byte 5
 unfoldable pub stageOf : ℕ → Stage
 stageOf n = cond (eqb n 0) Idle (cond (eqb n 1) Receiving Awaiting)
 

@@ -1,5 +1,4 @@
--- The fresh units. Document 01, The unit block: "`new` is all zero but: byte 9 = 1, preset 67BF 265B 10B5 2866, each system palette
--- 7FFF 56B5 294A 0000. `post_boot` also has bytes 3 and 4 = 1."
+-- The fresh units, `new` and `post_boot`. RULES 1.13.
 use Prim.Native.Nat.{ℕ, zero, suc}
 use mathlib.Core.Bool.{Bool, true, false}
 use mathlib.Core.List.{List, [], _∷_, _++_}

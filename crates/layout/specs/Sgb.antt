@@ -1,5 +1,5 @@
 -- The unit as a record of three parts, split by who touches them (docs/ARCHITECTURE.md, The meaning).
--- Document 01, The unit block, has the same fields as bytes; `Block` next door turns one into the other.
+-- RULES 1.4 and 1.5 have the same fields as bytes; `Block` next door turns one into the other.
 use Prim.Native.Nat.{ℕ}
 use mathlib.Core.List.{List}
 use mathlib.Core.Option.{Option}

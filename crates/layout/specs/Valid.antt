@@ -1,4 +1,4 @@
--- Which blocks are valid: V1 to V6 of document 01, The unit block, in its words and order. Each is a test, as code can make it.
+-- Which blocks are valid: V1 to V6, RULES 1.6 to 1.12, in that order. Each is a test, as code can make it.
 use Prim.Native.Nat.{ℕ}
 use mathlib.Core.Path.{_≡_}
 use mathlib.Core.Bool.{Bool, true, _&&_, _||_, cond}
@@ -14,11 +14,11 @@ use Rattle.receiver.specs.Valid.{v3 as receiverValid}
 use Rattle.parts.specs.Parts.{blockBytes, maskAt, indexAt, padsAt, p15At, bothAt, stageAt, expectedAt, receivedAt, bitsAt, presetOnAt, countdownAt, kindAt, frozenOnAt, spareAt, spareBytes, packetAt, packetBytes, storeAt, storeBytes, presetAt, presetBytes, captureBytes, frozenAt}
 use Rattle.layout.specs.Block.{byte, isSet, stageOf, valueOf}
 
--- "Bytes 0 and 2 at most 3; byte 1 has no bit outside byte 2."
+-- mask mode and joypad mask are 3 or less, and the mask has every bit that the index has
 unfoldable pub v1 : List ℕ → Bool
 v1 b = leb (byte maskAt b) 3 && (leb (byte padsAt b) 3 && eqb (bitAnd (byte indexAt b) (byte padsAt b)) (byte indexAt b))
 
--- "Bytes 3, 4, 9, 12 are 0 or 1; byte 4 is 1 only if byte 3 is. Bytes 13 to 15 are zero."
+-- the four flags are 0 or 1, both lines are high only if P15 is, and the spare bytes hold nothing
 unfoldable pub v2 : List ℕ → Bool
 v2 b =
     leb (byte p15At b) 1
@@ -28,7 +28,7 @@ v2 b =
     && (cond (isSet (byte bothAt b)) (isSet (byte p15At b)) true
     && zeros (part spareAt spareBytes b)))))
 
--- V3's fields by the bytes that hold them: byte 5 the receiver's number, 6 packets expected, 7 received, 8 the bit index, and from byte 16
+-- V3's fields by the bytes that hold them (RULES 1.4): the receiver's number, expected, received, the bit index, and from byte 16
 -- on the current packet, as the number that its sixteen bytes make; from byte 32 on the packet store. `load` reads them so (proofs/Readings)
 abbrev pub receiverIn : List ℕ → Rx
 receiverIn b =
@@ -43,34 +43,34 @@ receiverIn b =
 abbrev pub storeIn : List ℕ → List ℕ
 storeIn b = part storeAt storeBytes b
 
--- "Idle: .. Receiving: .. Awaiting: .. No other receiver number." The sentences, over these fields, are `Valid` of the crate `receiver`.
+-- byte 5 is 0, 1 or 2; what V3 asks of these fields then is `Valid` of the crate `receiver`.
 -- That the packet is bytes is asked too, since a number stands for it; of a lent block they always are
 unfoldable pub v3 : List ℕ → Bool
 v3 b =
     leb (byte stageAt b) 2
     && (areBytes (part packetAt packetBytes b) && receiverValid (receiverIn b) (storeIn b))
 
--- "Countdown and kind both 0, or countdown 1 to 3 and kind 0 to 4."
+-- nothing is pending, or one of the five kinds is, with 1, 2 or 3 screens to go
 unfoldable pub v4 : List ℕ → Bool
 v4 b =
     (eqb (byte countdownAt b) 0 && eqb (byte kindAt b) 0)
     || (leb 1 (byte countdownAt b) && (leb (byte countdownAt b) 3 && leb (byte kindAt b) 4))
 
--- "Preset bytes zero if byte 9 is 0."
+-- a preset that is not in force is all zeros
 unfoldable pub v5 : List ℕ → Bool
 v5 b = cond (eqb (byte presetOnAt b) 0) (zeros (part presetAt presetBytes b)) true
 
--- "Mask 1 needs byte 12 = 1; masks 2 and 3 need it 0; mask 0 allows either."
+-- a frozen capture must be there in mode 1, may be there in mode 0, and is not there in modes 2 and 3
 unfoldable pub maskAllows : ℕ → ℕ → Bool
 maskAllows mask frozenOn = cond (eqb mask 0) true (cond (eqb mask 1) (eqb frozenOn 1) (eqb frozenOn 0))
 
--- ".. If byte 12 is 0 the frozen capture is zero."
+-- and one that is not there is all zeros
 unfoldable pub v6 : List ℕ → Bool
 v6 b =
     maskAllows (byte maskAt b) (byte frozenOnAt b)
     && cond (eqb (byte frozenOnAt b) 0) (zeros (part frozenAt captureBytes b)) true
 
--- "Valid means all of" them
+-- all six
 unfoldable pub validParts : List ℕ → Bool
 validParts b = v1 b && (v2 b && (v3 b && (v4 b && (v5 b && v6 b))))
 

@@ -1,4 +1,4 @@
--- Document 01's example, of the whole definition, computed: what `replay` prints of the input `01003020`.
+-- The example of RULES 8.5, of the whole definition, computed: what `replay` prints of the input `01003020`.
 use mathlib.Core.Path.{_≡_, refl}
 use mathlib.Core.List.{[], _∷_}
 use Rattle.bits.specs.Bit.{bitOf}

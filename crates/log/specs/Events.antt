@@ -1,6 +1,6 @@
 -- What a log does, before any text is made of it: the commands that its writes complete and the lines that are refused, in log order, and
--- the unit at its end. Document 01, Pulses, verdict, log: "Both programs read a log .. and start from `post_boot`", "`line N: 7` (N decimal
--- from 1) for a refused line, which has no effect". What a write and a screen do are the rules (crate `rules`).
+-- the unit at its end, from `post_boot` on. RULES 8.4. A refused line is told by its number and does nothing else. What a write and a screen
+-- do are the rules (crate `rules`).
 use Prim.Native.Nat.{ℕ, suc}
 use mathlib.Core.Bool.{true}
 use mathlib.Core.List.{List, [], _∷_, _++_, map}

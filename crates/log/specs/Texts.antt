@@ -1,4 +1,4 @@
--- What each program prints for a log, from its bytes to the bytes printed. Document 01, Pulses, verdict, log.
+-- What each program prints for a log, from its bytes to the bytes printed. RULES 8.5 and 8.6.
 use Prim.Native.Nat.{ℕ, zero, suc, _+_}
 use mathlib.Core.List.{List, [], _∷_, _++_}
 use lib.ListN.{take}
@@ -9,7 +9,7 @@ use Rattle.block_picture.specs.Drawn.{partsOf}
 use Rattle.log_text.specs.Text.{hexLine, refusalText, rowLine}
 use Rattle.log.specs.Events.{Event, completed, refusal, eventsOf, unitAfter}
 
--- ---- `replay`: "each completed command in upper-case hex, `line N: 7` .. for a refused line .., and last the block's first 13 bytes"
+-- ---- `replay`: the log's commands and refused lines as they come, and at the end the head of the block
 
 unfoldable pub shownOne : Event → List ℕ
 shownOne (completed c) = hexLine c
@@ -29,7 +29,7 @@ headLine block = hexLine (take headBytes block)
 unfoldable pub replayText : List ℕ → List ℕ
 replayText input = shown (eventsOf input) ++ headLine (save (unitAfter input))
 
--- ---- `plate`: "224 lines of 256 words ..; at a refused line it prints only that refusal and ends"
+-- ---- `plate`: the picture, or the first refused line and nothing else
 
 -- n rows from row y on
 unfoldable pub rowLines : ℕ → ℕ → Sgb → List ℕ

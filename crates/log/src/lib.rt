@@ -1,5 +1,5 @@
 // A log read in chunks of any size: its lines, what they do to the unit, and the text of it. Nothing here reads or writes: the caller
-// feeds chunks and writes out the text that each call gives. Document 01, Pulses, verdict, log. The meaning of the whole is in specs/Events
+// feeds chunks and writes out the text that each call gives. RULES 8. The meaning of the whole is in specs/Events
 // and specs/Texts, the steps are in specs/Steps, and that the steps tell the whole is in proofs/.
 ghost use mathlib.Core.Path.{_≡_};
 ghost use Prim.Native.Nat.{_+_, _*_, _≤_, _<_};

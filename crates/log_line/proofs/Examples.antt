@@ -1,4 +1,4 @@
--- Document 01's line, the edges of the form (docs/DECISIONS.md, Log forms), and steps of `split`, each computed.
+-- The line of RULES 8.5, the edges of the form (RULES 8.1 and 8.2), and steps of `split`, each computed.
 use mathlib.Core.Path.{_≡_, refl}
 use mathlib.Core.Bool.{false}
 use mathlib.Core.List.{List, [], _∷_, _++_}

@@ -1,5 +1,5 @@
--- What `parse` answers and leaves, for every text and buffer. Document 01, Refusals by number: 6 if the lent output is short of the
--- greatest answer, 7 if the line breaks its form; the lowest number wins; a refusal changes no lent byte; the tail is kept.
+-- What `parse` answers and leaves, for every text and buffer. RULES 8.3: refusal 6 where the buffer has no room for the
+-- longest line, then 7 for what is no line of a log. A refusal leaves the buffer as it was, and what is longer than the line keeps its tail.
 use Prim.Native.Nat.{ℕ}
 use mathlib.Core.Bool.{cond}
 use mathlib.Core.List.{List}

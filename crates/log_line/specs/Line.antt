@@ -1,5 +1,4 @@
--- What a line of a log means. Document 01, Pulses, verdict, log: "First byte 01: up to 5,760 writes follow. 02: a screen. All else, an
--- empty line or a 02 line of another length too, is refusal 7."
+-- What a line of a log means: writes, a screen, or nothing, and then it is refused. RULES 8.2.
 use Prim.Native.Nat.{ℕ, _+_, _*_}
 use mathlib.Core.Bool.{cond}
 use mathlib.Core.Option.{Option, none, some}

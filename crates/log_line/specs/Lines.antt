@@ -1,4 +1,4 @@
--- The lines of an input. Document 01, Pulses, verdict, log: "ended by LF; the last may lack it if not empty". And the same with lines
+-- The lines of an input, each ended by LF but perhaps the last (RULES 8.1). And the same with lines
 -- that are longer than any that means something only marked as such, which is what bounded memory can hold.
 use Prim.Native.Nat.{ℕ}
 use mathlib.Core.Bool.{cond}

@@ -1,4 +1,4 @@
-// One line of a log: its form, and its bytes. Document 01, Pulses, verdict, log. Next door: splitting an input into lines (`lines`).
+// One line of a log: its form, and its bytes. RULES 8.2 and 8.3. Next door: splitting an input into lines (`lines`).
 // The meaning is in specs/: `Line` what a line means, `Calls` what `parse` answers and leaves.
 ghost use mathlib.Core.Path.{_≡_};
 ghost use Rattle.log_line.specs.Line.{meaningOf};
@@ -13,7 +13,7 @@ pub mod lines;
 // The digits of the longest line that means something.
 pub const LINE_DIGITS: usize = 2 * (1 + CAPTURE_BYTES);
 
-// What a line is: refused, with document 01's number; so many writes; or a screen.
+// What a line is: refused, with its number (RULES 2.1); so many writes; or a screen.
 pub enum Line {
     Refused(u8),
     Writes(usize),

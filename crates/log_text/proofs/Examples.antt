@@ -1,4 +1,4 @@
--- Document 01's texts: what `replay` prints for `01003020`, and the first line's refusal.
+-- The texts of RULES 8.5: what `replay` prints for `01003020`, and the first line's refusal.
 use mathlib.Core.Path.{_≡_, refl}
 use mathlib.Core.List.{[], _∷_}
 use Rattle.bits.specs.Word.{lowByte, highByte}

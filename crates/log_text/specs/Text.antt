@@ -1,5 +1,4 @@
--- The lines that the programs print. Document 01, Pulses, verdict, log: "each completed command in upper-case hex, `line N: 7` (N
--- decimal from 1) for a refused line", "lines of 256 words, four upper-case hex digits each with nothing between", each "ended by LF".
+-- The lines that the programs print: a command, a refused line, a row of the picture, each with its LF. RULES 8.5 and 8.6.
 use Prim.Native.Nat.{ℕ, zero, suc, _^_}
 use mathlib.Core.Bool.{cond}
 use mathlib.Core.List.{List, [], _∷_, _++_}

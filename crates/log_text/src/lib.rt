@@ -1,4 +1,4 @@
-// The lines that the programs print: a command, a refusal, a row of the picture. Document 01, Pulses, verdict, log. Nothing here
+// The lines that the programs print: a command, a refusal, a row of the picture. RULES 8.5 and 8.6. Nothing here
 // writes to anywhere but the lent text; the meaning is in specs/Text.
 ghost use mathlib.Core.Path.{_≡_};
 ghost use Prim.Native.Nat.{_+_, _*_, _≤_};

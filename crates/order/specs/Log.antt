@@ -1,5 +1,5 @@
 -- A log is writes and screens in the order in which they come. What running one gives, which of its writes are fixed, and when two logs
--- may stand for each other. Demand 3; the rules are those of demand 2 (`Write` and `Screen` of the crate `rules`), so that a unit which
+-- may stand for each other. RULES 9.3, demand 3; the rules are those of demand 2 (`Write` and `Screen` of the crate `rules`), so that a unit which
 -- does nothing, and for which any order claim would hold, is not what this speaks of.
 use Prim.Native.Nat.{ℕ, zero, suc}
 use mathlib.Core.Path.{_≡_}
@@ -21,7 +21,7 @@ pub data Act : Type 0 where
 
 -- ---- a screen of any length
 
--- document 01, Refusals by number: 3 if the screen's length is not 5,760
+-- any other length is refused, with 3 (RULES 2.1)
 unfoldable pub accepts : List ℕ → Bool
 accepts x = eqb (length x) captureBytes
 
@@ -78,7 +78,7 @@ screensBefore (screen x ∷ l) i = suc (screensBefore l i)
 screensBefore (write v ∷ l) zero = 0
 screensBefore (write v ∷ l) (suc i) = screensBefore l i
 
--- "A write is fixed if it completes PAL_TRN, ATTR_TRN, CHR_TRN, PCT_TRN, PAL_SET, ATTR_SET or a freezing MASK_EN"
+-- a fixed write completes a command that reads or sets what screens change: `Fixed` of the crate `commands` has them
 unfoldable pub fixedOf : Command → Option Fixed
 fixedOf (plain c) = none
 fixedOf (fixed c) = some c
@@ -90,8 +90,8 @@ fixedAt u (screen x ∷ l) i = fixedAt (sees u x) l i
 fixedAt u (write v ∷ l) zero = fixedOf (carries (u .port) v)
 fixedAt u (write v ∷ l) (suc i) = fixedAt (written u v) l i
 
--- "two logs with the same writes in order and the same screens in order, merged differently .. every fixed write has equally many screens
--- before it in both"
+-- the logs a and b have the same writes and the same screens, each in one order, and ahead of each fixed write stand as many screens in
+-- the one as in the other
 pub record Aligned (u : Sgb) (a b : List Act) : Type 0 where
   pub sameWrites : writesOf a ≡ writesOf b
   pub sameScreens : screensOf a ≡ screensOf b

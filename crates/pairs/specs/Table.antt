@@ -1,4 +1,4 @@
--- Document 01, Pairs on each edge: its twelve pairs. A row has what the definitions give, and then what document 01 says of it.
+-- The twelve pairs of RULES 10.1. A row has what the definitions give, and then what the example says of it.
 use Prim.Native.Nat.{ℕ}
 use mathlib.Core.Bool.{Bool, cond}
 use mathlib.Core.List.{List, [], _∷_, _++_}
@@ -30,24 +30,24 @@ allThree = replicate mapBytes 0xFF
 
 unfoldable pub table : List (List ℕ × List ℕ)
 table =
-    -- counts 00 -> 0, EF -> 7, F0 -> 1, F7 -> 1
+    -- four first bytes, and the packets that each counts
     (countOf 0x00 ∷ [], 0 ∷ [])
     ∷ (countOf 0xEF ∷ [], 7 ∷ [])
     ∷ (countOf 0xF0 ∷ [], 1 ∷ [])
     ∷ (countOf 0xF7 ∷ [], 1 ∷ [])
-    -- MLT_REQ 2 at index 1 -> 2, at 3 -> 0
+    -- MLT_REQ with mask 2, which raises the index first
     ∷ (mltReq 2 1 .index ∷ [], 2 ∷ [])
     ∷ (mltReq 2 3 .index ∷ [], 0 ∷ [])
-    -- word 5003 is tile 3, palette 4, x flipped only
+    -- a map word: its tile, its palette, and its two flips
     ∷ (tileOf 0x5003 ∷ paletteOf 0x5003 ∷ flag (flipX 0x5003) ∷ flag (flipY 0x5003) ∷ [], 3 ∷ 4 ∷ 1 ∷ 0 ∷ [])
-    -- 67BF -> (255, 238, 202)
+    -- a colour word at eight bits a channel
     ∷ (rgb8 0x67BF .r ∷ rgb8 0x67BF .g ∷ rgb8 0x67BF .b ∷ [], 255 ∷ 238 ∷ 202 ∷ [])
-    -- packed 1B is 0, 1, 2, 3
+    -- a packed byte, from the high pair down
     ∷ (pairOf 0x1B 0 ∷ pairOf 0x1B 1 ∷ pairOf 0x1B 2 ∷ pairOf 0x1B 3 ∷ [], 0 ∷ 1 ∷ 2 ∷ 3 ∷ [])
-    -- shades 0 1 2 3 0 1 2 3 -> planes 55, 33
+    -- eight shades, and their two planes
     ∷ (let a = four (0 ∷ 1 ∷ 2 ∷ 3 ∷ []) in planeOf 0 a a ∷ planeOf 1 a a ∷ [], 0x55 ∷ 0x33 ∷ [])
-    -- ATTR_BLK control 1, byte 02, corners (3,3) (3,3) sets that cell only, to 2; every cell was 3
+    -- ATTR_BLK with one corner twice, set inside alone: this cell is its line; every cell was 3
     ∷ (attrBlk (oneSet (1 ∷ 0x02 ∷ 3 ∷ 3 ∷ 3 ∷ 3 ∷ [])) allThree, replicate 15 0xFF ++ 0xFE ∷ replicate 74 0xFF)
-    -- control 4, byte 10, x1 5, x2 4 sets all to 1
+    -- ATTR_BLK with its corners crossed, set outside alone: every cell is outside
     ∷ (attrBlk (oneSet (4 ∷ 0x10 ∷ 5 ∷ 0 ∷ 4 ∷ 17 ∷ [])) allThree, replicate mapBytes 0x55)
     ∷ []

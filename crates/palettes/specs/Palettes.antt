@@ -1,5 +1,5 @@
--- The palette commands on the 32 bytes of the four palettes: four words each, little-endian (document 01, Commands and The unit block;
--- Pan Docs, Palettes). That the preset ends is said where the preset stands.
+-- The palette commands on the 32 bytes of the four palettes: four words each, little-endian (RULES 4.3 and 4.4; Pan Docs,
+-- Palettes). That the preset ends is said where the preset stands.
 use mathlib.Core.List.{List, _++_}
 use Prim.Native.Nat.{ℕ, _+_, _*_, _%_}
 use Rattle.bits.specs.Over.{part, over}
@@ -21,7 +21,7 @@ otherColours p from d pals = over (paletteBytes * p + 2) 6 (part from 6 d) pals
 unfoldable pub shared : List ℕ → List ℕ → List ℕ
 shared d pals = firstColour 3 d (firstColour 2 d (firstColour 1 d (firstColour 0 d pals)))
 
--- PAL01, PAL23, PAL03, PAL12, for palettes a and b: word d1 is colour 0 of all four; words from d3 are colours 1 to 3 of a, from d9 of b
+-- PAL01, PAL23, PAL03, PAL12, for palettes a and b: colour 0 is shared, the next three words are a's other colours, the last three b's
 unfoldable pub palPair : ℕ → ℕ → List ℕ → List ℕ → List ℕ
 palPair a b d pals = otherColours b 9 d (otherColours a 3 d (shared d pals))
 

@@ -1,5 +1,5 @@
 // PAL01, PAL23, PAL03, PAL12 and PAL_SET on the 32 bytes of the four palettes.
-// Document 01, Commands; Pan Docs, Palettes. A colour stays the two bytes that the game sent: nothing here looks into it.
+// RULES 4.3 and 4.4; Pan Docs, Palettes. A colour stays the two bytes that the game sent: nothing here looks into it.
 ghost use mathlib.Core.Path.{_≡_};
 ghost use Prim.Native.Nat.{_+_, _*_, _≤_, _<_};
 ghost use lib.ListN.{length};
@@ -16,7 +16,7 @@ pub fn pal_pair(palettes: &mut [u8], a: usize, b: usize, d: &[u8])
     bits::put(palettes, 8 * b + 2, &d[9..15]);
 }
 
-// Word d1 becomes colour 0 of all four.
+// Colour 0, word d1, into each of the four.
 fn share(palettes: &mut [u8], d: &[u8])
     requires { ⌜ (length (now palettes) ≡ palettesBytes) × (16 ≤ length (now d)) ⌝ }
     ensures { λ _. ⌜ now (palettes .exit) ≡ shared (now (d .entry)) (now (palettes .entry)) ⌝ }

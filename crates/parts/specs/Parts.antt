@@ -1,4 +1,4 @@
--- Where everything stands in the unit block and how long it is. Document 01, The unit block. The code's names for the same are in
+-- Where everything stands in the unit block and how long it is. RULES 1.4 and 1.5. The code's names for the same are in
 -- src/lib.rt; no file outside this crate has these numbers, which tools/numbers sees to.
 use Prim.Native.Nat.{ℕ, _+_}
 use mathlib.Core.List.{List, [], _∷_}

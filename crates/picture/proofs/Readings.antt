@@ -1,4 +1,4 @@
--- Document 01's sentences on the picture, as laws of the definitions: what covers what, where the screen stands, whose colours it has, and
+-- RULES 6.3 to 6.6, as laws of the definitions: what covers what, where the screen stands, whose colours it has, and
 -- what a flip does to a tile.
 use Prim.Native.Nat.{ℕ, _+_, _-_, _*_, _/_, _%_, _^_, _<_, _≤_}
 use mathlib.Core.Path.{_≡_, refl, sym, _∙_}

@@ -1,6 +1,6 @@
 -- The SNES picture, pixel by pixel: 256 by 224 words.
--- Document 01, Screens, border and picture: the backdrop everywhere, the displayed screen at (48, 40), and the border's opaque pixels over
--- both. That a row asked for alone is that row of the whole is proofs/Rows.
+-- RULES 6.6: the backdrop, on it the displayed screen, and over both the border where it is opaque. That a row by itself is that row of
+-- the picture (RULES 6.7) is proofs/Rows.
 use Prim.Native.Nat.{ℕ, _+_, _-_, _*_, _/_, _%_}
 use mathlib.Core.Bool.{Bool, cond, _&&_}
 use mathlib.Core.List.{List}

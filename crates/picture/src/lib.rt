@@ -1,4 +1,4 @@
-// The SNES picture: the backdrop, the displayed screen at (48, 40), and the border over both (document 01, Screens, border and picture).
+// The SNES picture: the backdrop, the displayed screen on it, and the border over both (RULES 6.6 and 6.7).
 // Rust: `snes_picture`. A row goes by runs of eight pixels (`picture_runs`) from tables that are made once: with a full border a sixth of the Rust's time.
 use colour::Rgb555;
 ghost use mathlib.Core.Path.{_≡_};

@@ -1,5 +1,5 @@
--- What a call answers in document 01's terms (`Answer` of the crate `bits`): for each enum that a call here answers, its number or
--- value in each case.
+-- What the calls here answer, as a refusal's number or a value (`Answer` of the crate `bits`): for each enum, which it is in each case.
+-- RULES 2.1.
 use Prim.Native.Nat.{ℕ}
 use mathlib.Core.Bool.{Bool, true, false}
 pub use Rattle.bits.specs.Answer.{Answer, refused, given}

@@ -1,5 +1,5 @@
 -- A command is a list of bytes; which lists are commands.
--- Document 01, Refusals by number, 5: "command is empty, its length is not 16 times its count, or the count is 0 (encoder, verdict)".
+-- RULES 2.1: the others get refusal 5.
 use Prim.Native.Nat.{ℕ, _*_, _<_}
 use mathlib.Core.Bool.{Bool, not, _||_, cond}
 use mathlib.Core.List.{List, [], _∷_}

@@ -1,5 +1,4 @@
--- The pulses of a command. Document 01, Pulses, verdict, log: "Encoder, per packet: 00 30; each bit 10 (one) or 20 (zero), then 30;
--- stop 20 30: 260 writes." Pan Docs, Command packet transfers: first byte first, least significant bit first.
+-- The pulses of a command, 260 writes a packet. RULES 7.1; Pan Docs, Command packet transfers.
 use Prim.Native.Nat.{ℕ, zero, suc, _*_, _/_, _%_}
 use mathlib.Core.Path.{_≡_}
 use mathlib.Core.Bool.{Bool, cond}
@@ -20,12 +19,12 @@ unfoldable pub bitsIn : List ℕ → List ℕ
 bitsIn [] = []
 bitsIn (x ∷ xs) = bitsOf 8 x ++ bitsIn xs
 
--- "10 (one) or 20 (zero)"
+-- the write for a bit
 unfoldable pub pulse : ℕ → ℕ
 pulse zero = 0x20
 pulse (suc b) = 0x10
 
--- "each bit .., then 30"
+-- the writes for some bits, each with its release
 unfoldable pub sent : List ℕ → List ℕ
 sent [] = []
 sent (b ∷ bs) = pulse b ∷ 0x30 ∷ sent bs
@@ -38,16 +37,16 @@ unfoldable pub pulsesOf : ℕ → List ℕ → List ℕ
 pulsesOf zero c = []
 pulsesOf (suc n) c = packetPulses (take 16 c) ++ pulsesOf n (drop 16 c)
 
--- refusal 6: "lent output is short of the call's greatest answer: .. 260 pulses a packet"
+-- refusal 6: the output has no room for all of the writes (RULES 2.6)
 unfoldable pub short : List ℕ → ℕ → Bool
 short c room = ltb room (260 * packetsIn c)
 
--- what the encoder answers for a command and an output of this length. "The lowest number wins."
+-- what the encoder answers for a command and an output of this length: the lowest refusal first (RULES 2.2)
 unfoldable pub encoding : List ℕ → ℕ → Answer ℕ
 encoding c room =
     cond (malformed c) (refused 5) (cond (short c room) (refused 6) (given (260 * packetsIn c)))
 
--- the output after it. A refusal changes no byte; "An output longer than needed keeps its tail."
+-- the output after it: a refusal changes no byte, and what is longer than the writes keeps its tail (RULES 2.3)
 unfoldable pub encoded : List ℕ → List ℕ → List ℕ
 encoded c out =
     cond (malformed c) out

@@ -1,5 +1,5 @@
--- The way of a command out as pulses and in again: document 01, What the proofs owe a reader, and demand 2: "A command turned into
--- pulses and received with no earlier packet held comes back unchanged". The theorem is `proofs/Returns`' `round-trip`.
+-- The way of a command out as pulses and in again, into a receiver that holds no earlier packet: it comes back as it was. RULES 9.2, demand 2.
+-- The theorem is `proofs/Returns`' `round-trip`.
 use mathlib.Core.Path.{_≡_}
 use mathlib.Core.Bool.{true}
 use lib.ListN.{replicate}

@@ -1,5 +1,4 @@
--- Whether a command conforms. Document 01, Pulses, verdict, log: "A command conforms exactly if its code is at most 19 hex, it is one
--- packet unless 04, 05 (up to 7) or 07 (up to 6), and the number it announces (d1, d1, word d3) is 1-18, 1-110, 1-360 for those three."
+-- Whether a command conforms: its code, its number of packets and the number that it announces are on Pan Docs' list. RULES 7.2;
 -- Pan Docs, Command summary (packets), Attributes (the sets of ATTR_BLK and ATTR_LIN, the cells of ATTR_CHR).
 use Prim.Native.Nat.{ℕ}
 use mathlib.Core.Path.{_≡_}
@@ -26,14 +25,14 @@ attrChr = 0x07
 abbrev pub lastCode : ℕ
 lastCode = 0x19
 
--- "one packet unless 04, 05 (up to 7) or 07 (up to 6)"
+-- one packet, but for the three that announce how much they bring
 unfoldable pub mostPackets : ℕ → ℕ
 mostPackets code = cond (eqb code attrBlk || eqb code attrLin) 7 (cond (eqb code attrChr) 6 1)
 
 abbrev pub oneTo : ℕ → ℕ → Bool
 oneTo most n = leb 1 n && leb n most
 
--- "the number it announces (d1, d1, word d3) is 1-18, 1-110, 1-360 for those three"
+-- what those three announce: sets, lines, cells
 unfoldable pub announces : ℕ → List ℕ → Bool
 announces code c =
     cond (eqb code attrBlk) (oneTo 18 (getD c 1 0))

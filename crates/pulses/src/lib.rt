@@ -1,5 +1,5 @@
 // Commands as pulses and back: the encoder, and the verdict whether a command conforms.
-// Document 01, Pulses, verdict, log. Next door: one packet's pulses (`packet`), the rule of the verdict (`rule`). The meaning is in specs/,
+// RULES 7. Next door: one packet's pulses (`packet`), the rule of the verdict (`rule`). The meaning is in specs/,
 // the round trip in proofs/Returns.
 ghost use mathlib.Core.Path.{_≡_};
 ghost use Rattle.pulses.specs.Bytes.{commandPackets};

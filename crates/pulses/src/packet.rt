@@ -1,4 +1,4 @@
-// The pulses of a packet, and of several. Document 01, Pulses, verdict, log. The meaning is in specs/Encode.
+// The pulses of a packet, and of several. RULES 7.1. The meaning is in specs/Encode.
 ghost use mathlib.Core.Path.{_≡_};
 ghost use mathlib.Core.List.{_++_};
 ghost use Prim.Native.Nat.{_*_, _/_, _%_, _^_, _≤_, _<_};

@@ -1,4 +1,4 @@
-// The rule of the verdict. Document 01, Pulses, verdict, log. The meaning is in specs/Verdict.
+// The rule of the verdict. RULES 7.2. The meaning is in specs/Verdict.
 ghost use mathlib.Core.Path.{_≡_};
 ghost use Prim.Native.Nat.{_≤_};
 ghost use lib.ListN.{length};

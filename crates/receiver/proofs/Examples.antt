@@ -1,4 +1,4 @@
--- Document 01's worked examples of the receiver, computed from the definitions.
+-- Worked examples of the receiver, computed from the definitions: RULES 10.2, and what the print of RULES 8.5 rests on.
 use mathlib.Core.Path.{_≡_, refl}
 use mathlib.Core.Bool.{true}
 use mathlib.Core.List.{List, [], _∷_}
@@ -19,12 +19,12 @@ booted = record { p15 = true; both = true; rx = idle; store = replicate storeByt
 abbrev indexAfter : List ℕ → ℕ
 indexAfter ws = heard booted ws .port .rx .bits
 
--- "00 30 20": a start pulse, a release, and a data bit
+-- the writes of RULES 8.5: a start pulse, a release, and a data bit
 pub released : indexAfter (0x00 ∷ 0x30 ∷ 0x20 ∷ []) ≡ 1
 unfolding heard told answered wrote afterPulse pulsed whenIdle whenReceiving clocked quiet dataBit idle begun filed answerOf emptied pulseOf pulseBy p14High p15High bothHigh bitOf
 released = refl
 
--- "00 then 20 leaves bit index 0": no release, no clock
+-- a start pulse, and a zero with no release before it, which clocks nothing (RULES 10.2)
 pub not-released : indexAfter (0x00 ∷ 0x20 ∷ []) ≡ 0
 unfolding heard told answered wrote afterPulse pulsed whenIdle whenReceiving clocked quiet dataBit idle begun filed answerOf emptied pulseOf pulseBy p14High p15High bothHigh bitOf
 not-released = refl

@@ -1,4 +1,4 @@
--- A write by its lines first, as the code tests them, is the write by its stage first, as document 01 tells it: a release changes
+-- A write by its lines first, as the code tests them, is the write by its stage first, as RULES 3.3 to 3.7 tell it: a release changes
 -- nothing at any stage, a start pulse restarts at any stage (of an idle receiver all counts are zero), and one line low clocks.
 use mathlib.Core.Path.{_≡_, refl, sym, ap₂, _∙_}
 use mathlib.Core.Bool.{Bool, false, _&&_}

@@ -1,4 +1,4 @@
--- Document 01's sentences on a write, as laws of the definitions: when the joypad index moves, and what a stop pulse does to the store.
+-- RULES 3.2 and 3.6, as laws of the definitions: when the joypad index moves, and what a stop pulse does to the store.
 use mathlib.Core.Path.{_≡_, refl, sym, ap, _∙_}
 use mathlib.Core.Bool.{Bool, true, false, cond}
 use mathlib.Core.List.{List, _++_, append-assoc}

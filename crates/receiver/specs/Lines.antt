@@ -1,6 +1,5 @@
 -- The two lines that a write sets, and the joypad index. Next door: what the lines mean to the receiver (`Receive`).
--- Document 01, A write: "Only bit 4 (P14) and bit 5 (P15) count; 0 is low."
--- Pan Docs, Command packet transfers: JOYP bits 4 and 5; low is the active level.
+-- RULES 3.1 and 3.2; Pan Docs, Command packet transfers.
 use Prim.Native.Nat.{ℕ, _+_}
 use mathlib.Core.Bool.{Bool, true, false, not, _&&_, cond}
 use lib.Bits.{bitAnd}
@@ -29,6 +28,6 @@ pulseBy true true = release
 unfoldable pub pulseOf : ℕ → Pulse
 pulseOf v = pulseBy (p14High v) (p15High v)
 
--- "if P15 goes low to high, index = (index + 1) AND mask"; `was` is whether P15 was high before the write
+-- a rise of P15 moves the index on, within the mask; `was` is whether P15 was high before the write
 unfoldable pub indexed : ℕ → ℕ → Bool → ℕ → ℕ
 indexed index mask was v = cond (p15High v && not was) (bitAnd (index + 1) mask) index

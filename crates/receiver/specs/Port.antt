@@ -1,6 +1,6 @@
 -- A write, whole, up to the command that it completes: the two lines, the receiver and its packet store.
--- Document 01, A write: "if P15 goes low to high, index = (index + 1) AND mask; note P15; keep the old "both high" as released and
--- note the new one. Then:" the receiver's case. The index is `Lines`' `indexed`, by the port's old P15.
+-- RULES 3.2: the new lines are noted, a write is released if both were high before it, and then the receiver has its turn. The index is
+-- `Lines`' `indexed`, by the port's old P15.
 use Prim.Native.Nat.{ℕ}
 use mathlib.Core.Bool.{Bool}
 use mathlib.Core.List.{List, [], _∷_}

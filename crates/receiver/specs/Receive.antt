@@ -1,5 +1,5 @@
 -- What a pulse does to the receiver, case by case. Next door: the packet store and the whole write (`Store`, `Port`).
--- Document 01, A write; Pan Docs, Command packet transfers. Either stop pulse is taken, as in the Rust: Pan Docs gives it as 0.
+-- RULES 3.3 to 3.7; Pan Docs, Command packet transfers. Either stop pulse is taken, as in the Rust: Pan Docs gives it as 0.
 -- The packet that is coming in is one number below 2 ^ 128: its bytes first to last, each least significant bit first.
 use Prim.Native.Nat.{ℕ, _+_, _*_, _%_, _^_, _<_, _≤_}
 use mathlib.Core.Path.{_≡_}
@@ -26,7 +26,7 @@ pub record Step : Type 0 where
   pub next : Rx
   pub done : Done
 
--- "receiver (0 idle, 1 receiving, 2 awaiting)": document 01, The unit block
+-- byte 5 of the block (RULES 1.4)
 unfoldable pub stageNumber : Stage → ℕ
 stageNumber Idle = 0
 stageNumber Receiving = 1
@@ -39,11 +39,11 @@ idle = record { stage = Idle; expected = 0; received = 0; bits = 0; packet = 0 }
 unfoldable pub begun : ℕ → ℕ → Rx
 begun e n = record { stage = Receiving; expected = e; received = n; bits = 0; packet = 0 }
 
--- "the current packet and bit index are zeroed; earlier packets stay"
+-- this packet begins again; those that are in stay (RULES 3.4)
 unfoldable pub restarted : Rx → Rx
 restarted r = begun (r .expected) (r .received)
 
--- "a data bit, 1 if P15 is low, least significant first"
+-- a data bit takes the next place, from the lowest up (RULES 3.5)
 unfoldable pub dataBit : Rx → ℕ → Rx
 dataBit r b =
     record {
@@ -57,7 +57,7 @@ dataBit r b =
 unfoldable pub quiet : Rx → Step
 quiet r = record { next = r; done = Nothing }
 
--- "Append the packet. If all are in: idle, carry out the command .. Else awaiting." n are expected
+-- this packet is in, and n are expected: with the last one the command is complete, else the next is awaited (RULES 3.6)
 unfoldable pub kept : Rx → ℕ → Step
 kept r n =
     cond (leb n (r .received + 1))
@@ -67,33 +67,33 @@ kept r n =
       done = Packet (r .received);
     })
 
--- "on the first packet, expected = count; count 0 goes idle": the first packet's first byte tells how many there are
+-- the first packet's first byte tells how many there are; where it tells 0 the packet is dropped (RULES 3.6)
 unfoldable pub expecting : Rx → ℕ → Step
 expecting r n = cond (eqb n 0) (quiet idle) (kept r n)
 
 unfoldable pub stopped : Rx → Step
 stopped r = cond (eqb (r .received) 0) (expecting r (countOf (r .packet % 256))) (kept r (r .expected))
 
--- one line low: "if not released: nothing. Else below bit 128 a data bit ..; at bit 128 the stop pulse"
+-- one line low, which counts only after a release: a data bit while one is due, and then the stop pulse (RULES 3.4)
 unfoldable pub clocked : Rx → ℕ → Bool → Step
 clocked r b released =
     cond released (cond (ltb (r .bits) 128) (quiet (dataBit r b)) (stopped r)) (quiet r)
 
--- "Idle: both low begins a command (receiving, all zero)."
+-- a start pulse begins a command (RULES 3.3)
 unfoldable pub whenIdle : Rx → Pulse → Step
 whenIdle r start = quiet (begun 0 0)
 whenIdle r one = quiet r
 whenIdle r zero = quiet r
 whenIdle r release = quiet r
 
--- "Receiving, both low: .. zeroed; earlier packets stay. Both high: nothing. Otherwise" the line that is low clocks
+-- a start pulse restarts the packet, a release does nothing, and one line low clocks (RULES 3.4)
 unfoldable pub whenReceiving : Rx → Pulse → Bool → Step
 whenReceiving r start released = quiet (restarted r)
 whenReceiving r release released = quiet r
 whenReceiving r one released = clocked r 1 released
 whenReceiving r zero released = clocked r 0 released
 
--- "Awaiting: both low begins the next packet."
+-- a start pulse begins the next packet (RULES 3.7)
 unfoldable pub whenAwaiting : Rx → Pulse → Step
 whenAwaiting r start = quiet (restarted r)
 whenAwaiting r one = quiet r

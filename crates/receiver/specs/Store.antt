@@ -1,5 +1,5 @@
 -- The packet store: 112 bytes, seven places of sixteen. A packet that is in takes its place there; a command is complete with its last.
--- Document 01, A write: "Append the packet. If all are in: .. answer its 16 to 112 bytes."; The unit block: "32 packet store (112)".
+-- RULES 3.6 and 1.5.
 -- `atStop` is that rule. Below it stands the same in parts, by what a pulse completed, as the code goes: it files the packet, the caller
 -- takes the command from the store's front, and the store is emptied last. That the parts come to the rule is proofs/Readings.
 use Prim.Native.Nat.{ℕ, zero, suc, _+_, _-_, _*_, _/_, _%_, _<_}
@@ -41,13 +41,13 @@ filed Nothing p s = s
 filed (Packet n) p s = appended s p n
 filed (Command n) p s = appended s p (n - 1)
 
--- document 01's answer: "none", or the bytes of the command, which stand at the front of the store
+-- the answer (RULES 3.9): none, or the bytes of the command, which stand at the front of the store
 unfoldable pub answerOf : Done → List ℕ → Option (List ℕ)
 answerOf Nothing s = none
 answerOf (Packet n) s = none
 answerOf (Command n) s = some (take (16 * n) s)
 
--- "idle": when the command has been answered the store is zero
+-- when the command has been answered the receiver is idle, and the store is zero
 unfoldable pub emptied : Done → List ℕ → List ℕ
 emptied Nothing s = s
 emptied (Packet n) s = s

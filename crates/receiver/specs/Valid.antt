@@ -1,4 +1,4 @@
--- V3 of document 01, The unit block, sentence by sentence: which receivers, with their packet store, are valid.
+-- V3, RULES 1.8, row by row: which receivers, with their packet store, are valid.
 -- `V3` tells it by name, for proofs; `v3` as a test, for code. They agree (`proofs/Checks`), and every write keeps V3 (`proofs/Keeps`).
 use Prim.Native.Nat.{ℕ, _*_, _^_, _<_, _≤_}
 use mathlib.Core.Path.{_≡_}
@@ -13,7 +13,7 @@ use Rattle.receiver.specs.Receive.{Rx}
 use Rattle.receiver.specs.declared.Stage.{Stage}
 use Rattle.receiver.specs.declared.Stage.the-variants.{Idle, Receiving, Awaiting}
 
--- "Idle: 6, 7, 8 and 16 to 143 zero."
+-- idle: nothing is held
 pub record Resting (r : Rx) (s : List ℕ) : Type 0 where
   pub expected : r .expected ≡ 0
   pub received : r .received ≡ 0
@@ -21,24 +21,24 @@ pub record Resting (r : Rx) (s : List ℕ) : Type 0 where
   pub packet : r .packet ≡ 0
   pub store : zeros s ≡ true
 
--- "Receiving: bit index at most 128, packet bits at and past it zero." bit index, packet
+-- receiving: up to 128 bits are in, and none that is still to come is set. Bit index, packet
 pub record Coming (b p : ℕ) : Type 0 where
   pub bound : b ≤ 128
   pub clear : p < 2 ^ b
 
--- "Awaiting: bit index and current packet zero." bit index, packet
+-- awaiting: no bit of a packet is in. Bit index, packet
 pub record Between (b p : ℕ) : Type 0 where
   pub bits : b ≡ 0
   pub packet : p ≡ 0
 
--- "Receiving with received 0: expected 0 and store zero." expected, received, store
+-- the first packet is coming in: how many there will be is not known yet, and none is stored. Expected, received, store
 pub record First (e n : ℕ) (s : List ℕ) : Type 0 where
   pub none-in : n ≡ 0
   pub none-due : e ≡ 0
   pub empty : zeros s ≡ true
 
--- "Awaiting, or receiving with received over 0: 1 <= received < expected <= 7, expected equals the count of byte 32, store zero
--- past its first 16 times received bytes." Byte 32 is the store's first
+-- later: some of at most seven packets are in and some are due, the first byte in the store counts them, and behind those that are in the
+-- store is zero
 pub record Later (e n : ℕ) (s : List ℕ) : Type 0 where
   pub some-in : 1 ≤ n
   pub more-due : n < e
@@ -46,7 +46,7 @@ pub record Later (e n : ℕ) (s : List ℕ) : Type 0 where
   pub counted : e ≡ countOf (getD s 0 0)
   pub rest-empty : zeros (drop (16 * n) s) ≡ true
 
--- "No other receiver number.": a `Stage` is one of the three
+-- by the stage, which is one of the three
 abbrev pub V3At : Stage → Rx → List ℕ → Type 0
 V3At Idle r s = Resting r s
 V3At Receiving r s = Coming (r .bits) (r .packet) × (First (r .expected) (r .received) s ⊎ Later (r .expected) (r .received) s)

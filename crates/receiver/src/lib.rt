@@ -1,5 +1,5 @@
 // The packet receiver, by value: what a write to the joypad register does to the packet that is coming in.
-// Document 01, A write; Pan Docs, Command packet transfers. Next door: the packets that are in (`store`), the lines (`lines`).
+// RULES 3.3 to 3.8; Pan Docs, Command packet transfers. Next door: the packets that are in (`store`), the lines (`lines`).
 // The meaning is in specs/Receive; which receivers are valid, V3, in specs/Valid.
 ghost use mathlib.Core.Path.{_≡_};
 ghost use Prim.Native.Nat.{_<_};
@@ -48,7 +48,7 @@ pub fn packet_count(first: u8) -> u8
     if first >> 3 >= 0x1E { 1 } else { first & 0x07 }
 }
 
-// The stage as document 01 numbers it in the block.
+// The stage by its number in the block (RULES 1.4).
 pub fn stage_number(stage: Stage) -> u8
     ensures { λ r. ⌜ r ≡ stageNumber stage ⌝ }
 {

@@ -1,4 +1,4 @@
-// The two lines of the joypad register, and the joypad index that P15 steps. Document 01, A write. The meaning is in specs/Lines.
+// The two lines of the joypad register, and the joypad index that P15 steps. RULES 3.1 and 3.2. The meaning is in specs/Lines.
 ghost use mathlib.Core.Path.{_≡_};
 ghost use Prim.Native.Nat.{_<_};
 ghost use Rattle.receiver.specs.Lines.{p15High, bothHigh, indexed};

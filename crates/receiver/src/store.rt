@@ -1,4 +1,4 @@
-// The packet store: where a packet goes when it is in. Document 01, A write. The meaning is in specs/Store.
+// The packet store: where a packet goes when it is in. RULES 3.6. The meaning is in specs/Store.
 ghost use mathlib.Core.Path.{_≡_};
 ghost use Prim.Native.Nat.{_<_};
 ghost use lib.ListN.{length, getD};

@@ -1,5 +1,5 @@
 // A run of writes over one receiver that is held in locals, until a command completes or the writes end.
-// Document 01, A write. What it does to the block, and the command it completes, are the caller's: the packet store alone is lent.
+// RULES 3. What it does to the block, and the command it completes, are the caller's: the packet store alone is lent.
 ghost use mathlib.Core.Path.{_≡_};
 ghost use Rattle.receiver_run.specs.Run.{runs, portOf, endedOf, Ready};
 use receiver::Receiver;

@@ -39,7 +39,7 @@ use Rattle.rules.proofs.Pads.{pads-good, indexed-within}
 
 -- ---- a write
 
--- "byte 4 is 1 only if byte 3 is": both lines are high only where P15 is
+-- V2: both lines are high only where P15 is
 lines-kept : (v : ℕ) → cond (bothHigh v) (p15High v) true ≡ true
 unfolding bothHigh
 lines-kept v = go (p14High v) (p15High v)

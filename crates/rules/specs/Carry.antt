@@ -1,4 +1,4 @@
--- What each completed command does to the unit. Document 01, Commands. What a command computes is in the crates `palettes`, `attributes`
+-- What each completed command does to the unit. RULES 4. What a command computes is in the crates `palettes`, `attributes`
 -- and `commands`; here stands where it goes. A plain command is not handed `Snes`, which screens change, and a fixed one is:
 -- so a plain command and a screen may come in either order, and a reader sees it from the types.
 use Prim.Native.Nat.{ℕ}
@@ -29,7 +29,7 @@ withPads i m g = record {
   frozen = g .frozen;
 }
 
--- "Preset ends"
+-- a game that sets palettes ends the preset
 unfoldable pub withPalettes : List ℕ → Game → Game
 withPalettes p g = record {
   mask = g .mask;
@@ -63,7 +63,7 @@ withMask m f g = record {
   frozen = f;
 }
 
--- PAL_SET and ATTR_SET: "mask mode 0, the frozen capture stays" if bit 6 of the flags is set
+-- PAL_SET and ATTR_SET: bit 6 of the flags ends the mask, and a frozen capture is left where it is (RULES 4.4)
 unfoldable pub withoutMask : ℕ → Game → Game
 withoutMask flags g = withMask (cancelled flags (g .mask)) (g .frozen) g
 
@@ -99,7 +99,7 @@ withPending p s = record {
   borderPalettes = s .borderPalettes;
 }
 
--- "pending kinds .., countdown 3, replacing any before it"
+-- a transfer is pending for three screens, in the place of any that was (RULES 4.12)
 unfoldable pub fixedSnes : Fixed → Snes → Snes
 fixedSnes (command.palSet d) s = s
 fixedSnes (command.attrSet d) s = s

@@ -1,5 +1,4 @@
--- A screen: what it answers and what it leaves. Document 01, Screens, border and picture: "An accepted screen becomes the live capture.
--- If pending: countdown 1 lands, else it falls by one; the answer is the kind landed, or none." What lands is in the crate `transfer`.
+-- A screen: what it answers and what it leaves. RULES 5.1 to 5.4. What lands is in the crate `transfer`.
 use Prim.Native.Nat.{ℕ}
 use mathlib.Core.Bool.{true, false}
 use mathlib.Core.List.{List}

@@ -1,4 +1,4 @@
--- A write to the joypad register: what it answers and what it leaves. Document 01, A write. What the lines and the receiver do is in the
+-- A write to the joypad register: what it answers and what it leaves. RULES 3. What the lines and the receiver do is in the
 -- crate `receiver`; which command a write carries out is told by the port alone (`carries`).
 use Prim.Native.Nat.{ℕ}
 use mathlib.Core.List.{List}
@@ -9,7 +9,7 @@ use Rattle.commands.specs.Command.{Command, plain, nothing, decode}
 use Rattle.layout.specs.Sgb.{Sgb, Game}
 use Rattle.rules.specs.Carry.{withPads, carried}
 
--- "if P15 goes low to high, index = (index + 1) AND mask"
+-- a rise of P15 moves the joypad index (RULES 3.2)
 unfoldable pub advanced : Port → ℕ → Game → Game
 advanced p v g = withPads (indexed (g .index) (g .pads) (p .p15) v) (g .pads) g
 

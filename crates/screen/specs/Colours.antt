@@ -1,6 +1,5 @@
 -- The colour of a screen's pixel: a word of sixteen bits, all kept.
--- Document 01, Screens, border and picture: "0 if black, backdrop if backdrop mode, else shade 0 backdrop, other shades by the cell's palette".
--- While the preset is in force it stands for all four palettes, as in the Rust's `render_data`.
+-- RULES 6.4 and 6.5. While the preset is in force it stands for all four palettes, as in the Rust's `render_data`.
 use Prim.Native.Nat.{ℕ, _+_, _*_, _/_}
 use mathlib.Core.Bool.{Bool, cond}
 use mathlib.Core.List.{List}
@@ -12,7 +11,7 @@ use Rattle.screen.specs.Packed.{shadeAt, cellAt}
 unfoldable pub paletteColour : List ℕ → List ℕ → Bool → ℕ → ℕ → ℕ
 paletteColour palettes preset inForce n k = cond inForce (wordAt preset (k * 2)) (wordAt palettes (n * 8 + k * 2))
 
--- the backdrop: colour 0 of palette 0
+-- the backdrop: palette 0's first colour
 unfoldable pub backdropOf : List ℕ → List ℕ → Bool → ℕ
 backdropOf palettes preset inForce = paletteColour palettes preset inForce 0 0
 

@@ -1,5 +1,5 @@
--- Which capture is shown. Document 01, Port order and changes of shape: "all 5,760 bytes, the frozen one exactly for mask mode 1";
--- Refusals by number: the empty part exactly if either capture is not 5,760 bytes. A mask number over 3 shows the live one.
+-- Which capture is shown: the frozen one in mask mode 1, else the live one, for a mode over 3 too; the empty part if one of the two has
+-- another length than a capture. RULES 2.7 and 5.5.
 use Prim.Native.Nat.{ℕ}
 use mathlib.Core.List.{List, []}
 use mathlib.Core.Bool.{cond}

@@ -1,5 +1,5 @@
--- A screen and an attribute map as they are packed: numbers of two bits, four to a byte, the first in the high bit pair, row by row.
--- Document 01, Carried over, and The unit block ("palette numbers pack as shades do"); Pan Docs, Attributes.
+-- A screen and an attribute map as they are packed: row by row, four numbers of two bits in a byte, from the high bits down.
+-- RULES 1.1 to 1.3; Pan Docs, Attributes.
 use Prim.Native.Nat.{ℕ, _+_, _*_, _/_, _%_}
 use mathlib.Core.List.{List}
 use lib.ListN.{getD}

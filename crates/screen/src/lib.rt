@@ -1,4 +1,4 @@
-// The screen that is shown and the colours of its pixels (document 01, Screens, border and picture).
+// The screen that is shown and the colours of its pixels (RULES 5.5, 6.4 and 6.5).
 // Rust: `displayed_screen`, `render_data`, `SgbRenderData::backdrop` and `color_at`.
 use colour::Rgb555;
 ghost use mathlib.Core.Path.{_≡_};
@@ -9,7 +9,7 @@ ghost use Rattle.screen.specs.Packed.{pairAt};
 ghost use Rattle.screen.specs.Displayed.{displayed};
 ghost use Rattle.screen.specs.Colours.{paletteColour, backdropOf, shadedOf, maskedOf, colourAt};
 
-// The whole of the live or of the frozen capture, without copying. The empty part exactly if either is not 5,760 bytes.
+// The live capture or the frozen one, whole and not copied. The part is empty if one of them doesn't have 5,760 bytes, and only then.
 pub fn displayed_screen<'a>(live: &'a [u8], frozen: &'a [u8], mode: u8) -> &'a [u8]
     ensures { λ r. ⌜ now r ≡ displayed (now (live .entry)) (now (frozen .entry)) mode ⌝ }
 {

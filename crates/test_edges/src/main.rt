@@ -1,4 +1,4 @@
-// Document 01's worked examples, run on the unit by its public calls: one module a topic. What is written is compared with the file
+// The worked examples of RULES 10, run on the unit by its public calls: one module a topic. What is written is compared with the file
 // `stdout`.
 mod maps;
 mod replays;

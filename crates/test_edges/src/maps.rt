@@ -8,17 +8,17 @@ use libc::STDOUT_FILENO;
 pub fn examples(block: &mut [u8])
     requires { ⌜ length (now block) ≡ blockBytes ⌝ }
 {
-    // ATTR_CHR at (19, 17) of count 2 sets one cell, and the second pair falls off the map
+    // ATTR_CHR, two cells from the map's last one on: the second pair falls off the map
     show(
         &[0x39, 19, 17, 2, 0, 0, 0xF0, 0, 0, 0, 0, 0, 0, 0, 0, 0],
         block,
     );
-    // ATTR_BLK, control 1, byte 02, corners (3,3) (3,3): the line follows inside, and is that cell
+    // ATTR_BLK with one corner twice, set inside alone: the line follows inside, and is that cell
     show(
         &[0x21, 1, 1, 0x02, 3, 3, 3, 3, 0, 0, 0, 0, 0, 0, 0, 0],
         block,
     );
-    // ATTR_BLK, control 4, byte 10, x1 5, x2 4: every cell is outside
+    // ATTR_BLK with its corners crossed, set outside alone: every cell is outside
     show(
         &[0x21, 1, 4, 0x10, 5, 0, 4, 17, 0, 0, 0, 0, 0, 0, 0, 0],
         block,

@@ -1,5 +1,5 @@
 // What `replay` prints of one line of writes: each command that they complete, then the block's first 13 bytes.
-// Document 01, Pulses, verdict, log, and Pairs on each edge.
+// RULES 8.5 and 10.2.
 ghost use mathlib.Core.Path.{_≡_};
 ghost use Rattle.parts.specs.Parts.{blockBytes};
 ghost use lib.ListN.{length};

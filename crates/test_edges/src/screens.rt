@@ -1,4 +1,4 @@
-// Screens: document 01, Pairs on each edge, "a transfer lands at the third screen".
+// Screens: the third one after a transfer command lands (RULES 10.2).
 ghost use mathlib.Core.Path.{_≡_};
 ghost use Rattle.parts.specs.Parts.{blockBytes};
 ghost use lib.ListN.{length};
@@ -8,7 +8,7 @@ use libc::STDOUT_FILENO;
 use transfer::pending::Landed;
 use unit::Shown;
 
-// CHR_TRN to the upper half, and three screens whose first eight pixels are 0 1 2 3 0 1 2 3: planes 55 and 33.
+// CHR_TRN to the upper half, and three screens whose first eight pixels have the shades 0 to 3, twice: planes 55 and 33.
 pub fn examples(block: &mut [u8])
     requires { ⌜ length (now block) ≡ blockBytes ⌝ }
 {

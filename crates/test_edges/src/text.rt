@@ -1,4 +1,4 @@
-// What the examples print: bytes in upper-case hexadecimal, as document 01 has them, a line each.
+// What the examples print: bytes in upper-case hexadecimal, as RULES 8.5 has them, a line each.
 ghost use Prim.Native.Nat.{_<_};
 use libc::STDOUT_FILENO;
 

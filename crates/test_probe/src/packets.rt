@@ -26,7 +26,7 @@ pub extern "C" fn probe_index(index: u8, mask: u8, was: u8, value: u8) -> u8
     receiver::lines::index_after(index, mask, was == 1, value)
 }
 
-// The stage that document 01 numbers so.
+// The stage that has this number in the block (RULES 1.4).
 fn stage_of(number: u8) -> Stage
     ensures { λ r. ⌜ r ≡ stageOf number ⌝ }
 {
@@ -86,7 +86,7 @@ pub extern "C" fn probe_write(
     receiver::store::file(w, lo, hi, store)
 }
 
-// Document 01's number if it is refused, or how many writes: never below 260.
+// The refusal's number (RULES 2.1), or how many writes: never below 260.
 #[no_mangle]
 pub extern "C" fn probe_encode(command: &[u8], out: &mut [u8]) -> usize {
     let told = pulses::encode(command, out);
@@ -97,7 +97,7 @@ pub extern "C" fn probe_encode(command: &[u8], out: &mut [u8]) -> usize {
     }
 }
 
-// Document 01's number if it is refused, 1 if the command conforms, else 0.
+// The refusal's number (RULES 2.1), 1 if the command conforms, else 0.
 #[no_mangle]
 pub extern "C" fn probe_verdict(command: &[u8]) -> u8 {
     let told = pulses::verdict(command);

@@ -1,4 +1,5 @@
--- The two bytes and the enum say the same, since each number below 5 names one kind; and a transfer lands at the third screen, since the countdown starts at 3.
+-- The two bytes and the enum say the same, since each number below 5 names one kind; and the third screen is the one that lands, since
+-- the countdown starts at 3.
 -- Assumes nothing.
 use Prim.Native.Nat.{ℕ, zero, suc, _<_}
 use mathlib.Core.Path.{_≡_, refl, sym, ap, _∙_}

@@ -1,4 +1,4 @@
--- Document 01's examples and small ones, computed: the definitions say what they are meant to.
+-- Examples of RULES 10.1 and small ones, computed: the definitions say what they are meant to.
 -- Assumes nothing.
 use mathlib.Core.Path.{_≡_, refl}
 use mathlib.Core.List.{[], _∷_}
@@ -8,7 +8,7 @@ use Rattle.bits.specs.Plane.{byteOf}
 use Rattle.screen.specs.Packed.{pairAt}
 use Rattle.transfer.specs.Page.{planeByte}
 
--- Pairs on each edge: "shades 0 1 2 3 0 1 2 3 -> planes 55, 33", here as the first eight pixels of a screen, which are row 0 of tile 0
+-- the planes of the shades 0 to 3, twice, here as the first eight pixels of a screen, which are row 0 of tile 0
 pub first-row : (planeByte (27 ∷ 27 ∷ []) 0 0 0 ≡ 85) × (planeByte (27 ∷ 27 ∷ []) 0 0 1 ≡ 51)
 unfolding planeByte byteOf bitAt pairAt pairOf
 first-row = (refl, refl)

@@ -1,6 +1,5 @@
--- What each landing leaves in its own part of the block.
--- Document 01, Screens, border and picture: "Landing: 512 palettes; 45 files of 90; 4,096 tile bytes into a half; map words from bytes 0 to 6FF hex
--- with three palettes from byte 800 hex". Pan Docs, Palettes (PAL_TRN), Attributes (ATTR_TRN), Border (CHR_TRN, PCT_TRN).
+-- What each landing leaves in the part that it goes to. RULES 5.4.
+-- Pan Docs, Palettes (PAL_TRN), Attributes (ATTR_TRN), Border (CHR_TRN, PCT_TRN).
 use Prim.Native.Nat.{ℕ}
 use mathlib.Core.List.{List, _++_}
 use lib.ListN.{take, drop}

@@ -1,6 +1,5 @@
 -- The page that a screen shows, plane byte by plane byte and pixel by pixel.
--- Document 01, Screens, border and picture: "The page is tiles 0 to 255, twenty a tile row; each tile eight rows of (low plane, high plane),
--- leftmost pixel bit 7". Pan Docs, VRAM transfers.
+-- RULES 5.3; Pan Docs, VRAM transfers.
 use Prim.Native.Nat.{ℕ, _+_, _*_, _/_, _%_}
 use mathlib.Core.List.{List}
 use Rattle.bits.specs.Bit.{bitAt}

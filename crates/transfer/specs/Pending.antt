@@ -1,5 +1,5 @@
--- The pending transfer as document 01 has it: two bytes of the block, and what a screen does to it.
--- Document 01, The unit block (bytes 10 countdown, 11 transfer kind) and Screens, border and picture.
+-- The pending transfer: two bytes of the block, the countdown and the kind, and what a screen does to it.
+-- RULES 1.4, 4.12 and 5.2.
 use Prim.Native.Nat.{ℕ, _-_}
 use mathlib.Core.Bool.{true, false, cond}
 use mathlib.Core.Option.{Option, none, some}
@@ -11,7 +11,7 @@ use Rattle.transfer.specs.declared.pending.Pending.the-variants.{Nothing
 use Rattle.transfer.specs.declared.pending.Landed.{Landed}
 use Rattle.transfer.specs.declared.pending.Landed.the-variants as page
 
--- the number of each kind (Commands: "pending kinds 0, 1, 2 (3 if d1 bit 0), 4"; the border kind holds its half)
+-- the number of each kind (RULES 4.12); border tiles hold which half they are
 unfoldable pub numberOf : Transfer → ℕ
 numberOf Palettes = 0
 numberOf Attributes = 1
@@ -41,7 +41,7 @@ named n kind =
 unfoldable pub pendingOf : ℕ → ℕ → Pending
 pendingOf n kind = cond (eqb n 0) Nothing (named n kind)
 
--- a screen: countdown 1 lands, else it falls by one (a countdown of 0 is in no valid block; the Rust lands it too)
+-- a screen brings it nearer, and the last one ends it (a countdown of 0 is in no valid block; the Rust lands it too)
 unfoldable pub fallen : Pending → Pending
 fallen Nothing = Nothing
 fallen (In n t) = cond (leb n 1) Nothing (In (n - 1) t)

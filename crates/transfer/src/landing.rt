@@ -1,4 +1,4 @@
-// The landings. Each is lent only its own part of the block to write, and the screen that lands.
+// The landings. Each is lent the one part of the block that it writes, and the screen that lands. RULES 5.4.
 ghost use mathlib.Core.Path.{_≡_};
 ghost use lib.ListN.{length};
 ghost use Rattle.parts.specs.Parts.{systemBytes, filesBytes, captureBytes, halfBytes, borderBytes};

@@ -1,5 +1,5 @@
 // Transfers: what is pending (pending), the page that a screen shows (page), and the landings on their own lent parts (landing).
-// Document 01, Screens, border and picture; Rust: `screen_to_transfer_data`, `PendingTransfer`, `load_tiles`, `load_map_and_palettes`,
+// RULES 5; Rust: `screen_to_transfer_data`, `PendingTransfer`, `load_tiles`, `load_map_and_palettes`,
 // `cmd_pal_trn`, `cmd_attr_trn`.
 pub mod landing;
 pub mod page;

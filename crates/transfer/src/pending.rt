@@ -1,5 +1,5 @@
 // What the next screens are awaited for: a transfer and its countdown.
-// Document 01, Screens, border and picture ("If pending: countdown 1 lands, else it falls by one"); Rust: `PendingTransfer`, `update_screen`.
+// RULES 5.2; Rust: `PendingTransfer`, `update_screen`.
 ghost use mathlib.Core.Path.{_≡_};
 ghost use Rattle.transfer.specs.Pending.{numberOf, pendingOf, countdownOf, kindOf, fallen, lands};
 

@@ -1,4 +1,4 @@
--- Two outcomes that one contract allows are equal, for every public call: document 01, What the proofs owe a reader. There are no exceptions.
+-- Two outcomes that one contract allows are equal, for every public call (RULES 9.2). There are no exceptions.
 -- What that means and its one law stand in `bits` (specs/ and proofs/Determined). That an enum's cases are told apart stands with the enum:
 -- here, in `view` and `colour` (proofs/Told) and in `pulses` (proofs/Encodes). Next door: `log_line::parse` and the calls for C, each in the
 -- proofs/Determined of its crate.

@@ -1,4 +1,4 @@
--- What each enum that a call here answers stands for: document 01's number of a refusal, or the value.
+-- What each enum that a call here answers stands for: the number of a refusal (RULES 2.1), or the value.
 use Prim.Native.Nat.{ℕ, zero, suc}
 use mathlib.Core.Option.{Option, none, some}
 use Rattle.pulses.specs.Answer.{Answer, refused, given}

@@ -1,6 +1,6 @@
--- The public calls that change a block: what each answers and every lent byte after it, for all input. Document 01, Refusals by number:
--- "The lowest number wins. A refusal answers the number alone, and no lent byte changes." What a call does to a valid block is the rules'
--- (`Write` and `Screen` of the crate `rules`), read from the block and put back (`load` and `save`).
+-- The public calls that change a block: what each answers, and what it leaves in every lent byte, for all input. RULES 2, 3.9 and 5.1: the
+-- tests stand in the order of the numbers, and a refusal leaves every byte as it was. What a call does to a valid block is the rules' (`Write`
+-- and `Screen` of the crate `rules`), read from the block and put back (`load` and `save`).
 use Prim.Native.Nat.{ℕ}
 use mathlib.Core.Bool.{cond}
 use mathlib.Core.List.{List}

@@ -1,5 +1,5 @@
 -- A command sent to a unit by the public calls, pulse by pulse, to a block that holds no earlier packet (`NoneHeld` of the crate `pulses`): what
--- each write answers, and what the command makes of the block. Document 01, What the proofs owe a reader; demand 2. The theorem is
+-- each write answers, and what the command makes of the block. RULES 9.2, demand 2. The theorem is
 -- `calls-round-trip` of proofs/Trip.
 use Prim.Native.Nat.{ℕ, zero, suc, _+_, _-_, _*_}
 use mathlib.Core.List.{List, [], _∷_, _++_}

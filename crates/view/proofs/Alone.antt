@@ -1,5 +1,5 @@
 -- A row asked for alone is that row of the whole: the first 256 words that `row` leaves stand at 256 y in what `picture` leaves, since both
--- draw one unit's parts (`picture`, proofs/Rows). Document 01, Screens, border and picture.
+-- draw one unit's parts (`picture`, proofs/Rows). RULES 6.7.
 use Prim.Native.Nat.{ℕ, _*_, _/_, _%_, _<_, _≤_}
 use native.Mathlib.Omega.{arith}
 use mathlib.Core.Path.{_≡_, sym, ap, _∙_, refl}

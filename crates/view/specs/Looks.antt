@@ -1,6 +1,4 @@
--- What each call that only looks at a block answers.
--- Document 01, Screens, border and picture, and Refusals by number, 4 ("a column or row is outside what is asked about, or a given shade
--- is over 3") and 6 ("256 words a row, 57,344 a picture").
+-- What each call that only looks at a block answers. RULES 6; of its refusals, their bounds and the room, RULES 2.4 to 2.6.
 use Prim.Native.Nat.{ℕ}
 use mathlib.Core.Bool.{_&&_, cond}
 use mathlib.Core.List.{List}

@@ -1,5 +1,5 @@
--- The refusals that every call over a block gives first. Document 01, Refusals by number: 1 if the block's length is not 30,020,
--- 2 if the block is not valid; the lowest number wins.
+-- The refusals that every call over a block gives first. RULES 2.1 and 2.2: 1 for another length than a block's,
+-- and then 2 for a block that is not valid.
 use Prim.Native.Nat.{ℕ}
 use mathlib.Core.Bool.{cond}
 use mathlib.Core.List.{List}

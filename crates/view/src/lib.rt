@@ -1,4 +1,4 @@
-// The public calls that only look at a block. Document 01, Refusals by number, and Screens, border and picture.
+// The public calls that only look at a block. RULES 2.4 and 6.
 // None asks anything of its caller: a block of another length is refused (1), one that is not valid (2), then what is asked (4, 6).
 // A refusal changes no lent byte. The meaning is in specs/Looks, with the refusals inside. Each call tests, and then asks a worker of
 // `block_picture`, which takes a valid block and refuses nothing; whoever looks at one block many times asks `refusal` once and then the workers.

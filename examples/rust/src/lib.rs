@@ -30,7 +30,7 @@ impl fmt::Display for Refusal {
             1 => "the block's length is not 30,020",
             2 => "the block is not valid",
             3 => "the screen's length is not 5,760",
-            4 => "a column, row or shade is outside what is asked about",
+            4 => "there is no such column, row or shade",
             5 => "the command is empty, or its length is not what its first byte tells",
             6 => "the output is short",
             _ => "unknown",

@@ -1,4 +1,4 @@
-//! The unit by its safe interface: document 01's worked examples that need no recording.
+//! The unit by its safe interface: worked examples of docs/RULES.md (RULES 10) that need no recording.
 
 use sporedrift::{Landed, Refusal, SCREEN, Unit, calls, encode, verdict};
 

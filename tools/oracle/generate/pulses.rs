@@ -70,7 +70,7 @@ fn shape(rng: &mut Rng, code: u8, d: &mut [u8]) {
     }
 }
 
-/// Document 01, "Pulses, verdict, log": 260 writes a packet.
+/// RULES 7.1: 260 writes a packet.
 pub fn encode(command: &[u8]) -> Vec<u8> {
     let mut writes = Vec::new();
     for packet in command.chunks(16) {

@@ -13,7 +13,7 @@ use crate::valid;
 
 unsafe extern "C" {
     safe fn probe_mlt_req(index: u8, d1: u8) -> u16;
-    // a slice is a pointer and a length; lengths as document 01 has them
+    // a slice is a pointer and a length; lengths as RULES 1.5 has them
     fn probe_decode(d: *const u8, len: usize) -> u16;
     fn probe_attr_blk(map: *mut u8, n: usize, d: *const u8, len: usize);
     fn probe_attr_lin(map: *mut u8, n: usize, d: *const u8, len: usize);

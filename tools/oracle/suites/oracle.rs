@@ -1,5 +1,5 @@
-//! The oracle held to document 01, with no port: that it loads and saves every valid block, that what it leaves is valid,
-//! and that document 01's worked examples are what the Rust does. What the other suites find rests on this.
+//! The oracle held to RULES, with no port: that it loads and saves every valid block, that what it leaves is valid,
+//! and that the worked examples of RULES 10 are what the Rust does. What the other suites find rests on this.
 
 use crate::block::{self, *};
 use crate::ctx::Ctx;
@@ -208,7 +208,7 @@ fn pages(ctx: &mut Ctx) {
     }
 }
 
-/// Document 01, "Pairs on each edge" and the examples in its text, through the Rust.
+/// RULES 10.1 and 10.2 and the example of 8.5, through the Rust.
 fn worked_examples(ctx: &mut Ctx) {
     let mut holds = |what: &str, holds: bool| ctx.check(holds, || what.into());
 
@@ -262,7 +262,7 @@ fn worked_examples(ctx: &mut Ctx) {
     holds("00 then 20: no bit", b[RECEIVER] == 1 && b[BIT_INDEX] == 0);
     let cells = cells_after(&[0x39, 19, 17, 2, 0, 0, 0xFF]);
     let one = cells.iter().flatten().filter(|c| **c != 0).count() == 1 && cells[17][19] == 3;
-    holds("ATTR_CHR at (19,17) of count 2", one);
+    holds("ATTR_CHR from the last cell on", one);
 
     let mut rust = Oracle::post_boot();
     let mut command = [0; 16];
@@ -273,7 +273,7 @@ fn worked_examples(ctx: &mut Ctx) {
     let screen = vec![0; SCREEN_LEN];
     let landed = [(); 4].map(|_| rust.screen(&screen));
     holds(
-        "a transfer lands at the third screen",
+        "the third screen lands",
         landed == [None, None, Some(0), None],
     );
 }

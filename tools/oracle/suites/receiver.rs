@@ -1,6 +1,6 @@
 //! The receiver write by write against the Rust: its answers, and every byte of the lines, the receiver, the packet and the store.
 //! Every six writes from edge states, random streams, and each code with each packet count, sent by the port's own encoder. The
-//! encoder and the verdict, which the Rust lacks, are held to document 01's sentences.
+//! encoder and the verdict, which the Rust lacks, are held to RULES 7.
 
 use crate::block::*;
 use crate::counts::count;
@@ -249,7 +249,7 @@ fn refusals(ctx: &mut Ctx) {
     }
 }
 
-/// Document 01: code at most 19 hex; one packet unless 04, 05 (up to 7) or 07 (up to 6); the announced number 1-18, 1-110, 1-360.
+/// RULES 7.2: the code, the number of packets, and the number of sets, lines or cells that is announced.
 fn verdicts(ctx: &mut Ctx) {
     for first in 0..=255u8 {
         let (code, packets) = (first / 8, valid::count(first));

@@ -74,7 +74,7 @@ impl Call {
         (answer, out)
     }
 
-    /// Document 01's refusal, from the block, the place and the room alone.
+    /// The refusal of RULES 2.4 to 2.6, from the block, the place and the room alone.
     fn refusal(self, b: &[u8]) -> Option<u64> {
         let (outside, short) = match self {
             Call::MaskMode | Call::Backdrop => (false, false),
@@ -129,7 +129,7 @@ impl Call {
         }
     }
 
-    /// Refused as document 01 says, with every word as it was; or answered as the Rust does.
+    /// Refused as RULES 2 says, with every word as it was; or answered as the Rust does.
     fn right(self, b: &[u8]) -> Result<(), String> {
         match self.refusal(b) {
             Some(no) => self.same(b, (REFUSED | no, self.lent())),

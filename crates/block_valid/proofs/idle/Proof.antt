@@ -1,4 +1,4 @@
--- Each test of the sentence in turn; the packet's number is 0 if its bytes are.
+-- Each test of that row of V3 (RULES 1.8) in turn; the packet's number is 0 if its bytes are.
 use borrow.Author.Needs.{needs}
 use borrow.Author.Tests.{eq-eqb, ne-eqb, not-true, not-false}
 use mathlib.Core.Path.{sym, _∙_}

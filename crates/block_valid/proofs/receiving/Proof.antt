@@ -1,4 +1,4 @@
--- Each test of the sentence in turn; the packet's two words are the number of its bytes.
+-- Each test of that row of V3 (RULES 1.8) in turn; the packet's two words are the number of its bytes.
 use borrow.Author.Needs.{needs}
 use borrow.Author.Tests.{eq-eqb, ne-eqb, le-leb, lt-leb, not-true, not-false}
 use mathlib.Core.Path.{sym, _∙_}

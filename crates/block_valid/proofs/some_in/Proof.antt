@@ -1,4 +1,4 @@
--- Each test of the sentence in turn; the store's parts are parts of the block.
+-- Each test of that row of V3 (RULES 1.8) in turn; the store's parts are parts of the block.
 use borrow.Author.Needs.{needs}
 use borrow.Author.Tests.{eq-eqb, ne-eqb, le-leb, lt-leb, lt-ltb, le-ltb}
 use mathlib.Core.Path.{sym, _∙_, ap}

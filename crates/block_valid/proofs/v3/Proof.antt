@@ -1,4 +1,4 @@
--- The stage's number picks the sentence; a lent block is bytes.
+-- The stage's number picks the row of V3 (RULES 1.8); a lent block is bytes.
 use borrow.Author.Needs.{needs}
 use borrow.Author.Tests.{lt-leb}
 use native.Mathlib.Omega.{arith}

@@ -1,4 +1,4 @@
--- The part is the page's first 4,050 bytes, and all of it is written (`files-are`).
+-- The part is the front of the page, and all of it is written (`files-are`).
 use borrow.Author.Needs.{needs}
 use Rattle.transfer.proofs.Parts.{files-are}
 use Rattle.transfer.proofs.landing.land_files.Statement.{statement}
