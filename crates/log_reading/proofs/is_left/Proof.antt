@@ -1,7 +1,7 @@
 -- By whether the chunk holds more.
-use Rattle.log.proofs.Left.{is-chunk, is-pending}
-use Rattle.log.proofs.is_left.Statement.{statement}
-use Rattle.log.proofs.is_left.Tie as tie
+use Rattle.log_reading.proofs.Left.{is-chunk, is-pending}
+use Rattle.log_reading.proofs.is_left.Statement.{statement}
+use Rattle.log_reading.proofs.is_left.Tie as tie
 
 returns : tie.Need-returns
 returns c = is-chunk (c .before .args .reading) (c .before .args .size) (c .before .args .at) (c .if1 .taken)

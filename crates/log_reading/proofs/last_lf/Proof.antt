@@ -1,7 +1,7 @@
 -- By what is held.
-use Rattle.log.proofs.Coded.{last-long, last-some, last-none}
-use Rattle.log.proofs.last_lf.Statement.{statement}
-use Rattle.log.proofs.last_lf.Tie as tie
+use Rattle.log_reading.proofs.Left.{last-long, last-some, last-none}
+use Rattle.log_reading.proofs.last_lf.Statement.{statement}
+use Rattle.log_reading.proofs.last_lf.Tie as tie
 
 returns : tie.Need-returns
 returns c = last-long (c .before .before .args .reading) (c .if1 .taken)

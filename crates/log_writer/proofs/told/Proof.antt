@@ -2,10 +2,10 @@
 use denote.Ref.{now}
 use mathlib.Core.Bool.{Bool, cond}
 use mathlib.Core.Path.{sym, ap}
-use Rattle.log_reader.specs.declared.State.the-variants.{Well, Failed, Refused}
-use Rattle.log_reader.proofs.Feeding.{told-quiet, told-loud}
-use Rattle.log_reader.proofs.told.Statement.{statement}
-use Rattle.log_reader.proofs.told.Tie as tie
+use Rattle.log_writer.specs.declared.State.the-variants.{Well, Failed, Refused}
+use Rattle.log_writer.proofs.Telling.{told-quiet, told-loud}
+use Rattle.log_writer.proofs.told.Statement.{statement}
+use Rattle.log_writer.proofs.told.Tie as tie
 
 returns : tie.Need-returns
 returns c =
