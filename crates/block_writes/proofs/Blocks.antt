@@ -32,8 +32,8 @@ use Rattle.rules.proofs.Keeps.{WholeIf, answered-whole, good-stepped, good-writ
 use Rattle.block_write.specs.Bytes.{linesOf, putReceiver, putLines, handed, packetsTold, taken, settled}
 use Rattle.block_write.proofs.Steps.{port-made, length-receiver, packets-taken}
 use Rattle.block_write.proofs.Handed.{none-carried, front}
-use Rattle.block_command.specs.Carrying.{carriedBlock}
-use Rattle.block_command.proofs.Chain.{carried-good}
+use Rattle.block_plain.specs.Carrying.{carriedBlock}
+use Rattle.block_command.proofs.Told.{carried-good}
 use Rattle.block_writes.specs.Play.{Played, played, handedOver, commandOf, ranTo, ranUnit}
 use Rattle.block_writes.proofs.Plays.{further, none-written, one-written, one-stepped, mk, plays}
 

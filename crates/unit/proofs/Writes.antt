@@ -16,8 +16,8 @@ use Rattle.rules.specs.Write.{carries, stepped, written, answer}
 use Rattle.rules.proofs.Keeps.{WholeIf, answered-whole, good-stepped}
 use Rattle.block_write.specs.Bytes.{handed, packetsTold}
 use Rattle.block_write.proofs.Handed.{nothing-in, none-carried, Front, front}
-use Rattle.block_command.specs.Carrying.{carriedBlock}
-use Rattle.block_command.proofs.Chain.{carried-good}
+use Rattle.block_plain.specs.Carrying.{carriedBlock}
+use Rattle.block_command.proofs.Told.{carried-good}
 use Rattle.unit.specs.Calls.{packetsAnswered}
 
 pub answer-whole : (u : Sgb) (v : ℕ) → Good u → WholeIf (answer u v)
