@@ -2,7 +2,7 @@
 use mathlib.Core.Path.{_≡_, sym, ap, _∙_, subst, subst⁻¹}
 use mathlib.Core.List.{List}
 use Prim.Native.Nat.{ℕ, _<_}
-use Rattle.attributes.specs.Data.{Whole}
+use Rattle.attribute_map.specs.Data.{Whole}
 use Rattle.commands.specs.Command as command
 use Rattle.commands.specs.Command.{fixed, plain, maskEn, decode}
 use Rattle.commands.specs.Good.{GoodPlain, GoodCommand}

@@ -5,7 +5,7 @@
 ghost use mathlib.Core.Path.{_≡_};
 ghost use Prim.Native.Nat.{_*_, _≤_};
 ghost use lib.ListN.{length, take};
-ghost use Rattle.attributes.specs.Data.{Whole};
+ghost use Rattle.attribute_map.specs.Data.{Whole};
 ghost use Rattle.commands.specs.Command.{plain, fixed, decode};
 ghost use Rattle.commands.specs.Good.{GoodPlain};
 ghost use Rattle.commands.specs.Told.{toldPlain, toldFixed};

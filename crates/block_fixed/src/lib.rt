@@ -3,7 +3,7 @@
 // crate `block_plain`. Every worker of a command requires a valid block and leaves one.
 ghost use mathlib.Core.Path.{_≡_};
 ghost use lib.ListN.{length};
-ghost use Rattle.attributes.specs.Data.{Whole};
+ghost use Rattle.attribute_map.specs.Data.{Whole};
 ghost use Rattle.palettes.specs.Palettes as palette;
 ghost use Rattle.commands.specs.Command.{fixed, palSet, attrSet, freeze, transfer};
 ghost use Rattle.commands.specs.Files.{palSetMap, attrSetMap};

@@ -4,7 +4,7 @@
 ghost use mathlib.Core.Path.{_≡_};
 ghost use Prim.Native.Nat.{_<_};
 ghost use lib.ListN.{length};
-ghost use Rattle.attributes.specs.Data.{Whole};
+ghost use Rattle.attribute_map.specs.Data.{Whole};
 ghost use Rattle.commands.specs.Command.{plain, palPair, attrBlk, attrLin, attrDiv, attrChr, mltReq, maskEn};
 ghost use Rattle.commands.specs.Good.{GoodPlain};
 ghost use Rattle.parts.specs.Parts.{blockBytes};

@@ -14,7 +14,7 @@ use Rattle.receiver.specs.Receive.{Rx, rxOf}
 use Rattle.receiver.specs.Store.{packetsOf}
 use Rattle.receiver.specs.declared.Receiver.{Receiver}
 use Rattle.receiver.proofs.Keeps.{v3-sound}
-use Rattle.attributes.specs.Data.{Whole}
+use Rattle.attribute_map.specs.Data.{Whole}
 use Rattle.commands.specs.Command.{Command, decode}
 use Rattle.receiver_run.specs.Run.{Ended, lined, onward, runs, Ready, portOf, endedOf}
 use Rattle.receiver_run.specs.declared.Lines.{Lines}
