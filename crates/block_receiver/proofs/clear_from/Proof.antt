@@ -1,8 +1,8 @@
 -- By the word that the bit index points into: past it nothing is left after a shift.
 use borrow.Author.Needs.{needs}
-use Rattle.block_valid.proofs.Bytes.{clear-whole, clear-high, clear-not, clear-low}
-use Rattle.block_valid.proofs.clear_from.Statement.{statement}
-use Rattle.block_valid.proofs.clear_from.Tie as tie
+use Rattle.block_receiver.proofs.Bytes.{clear-whole, clear-high, clear-not, clear-low}
+use Rattle.block_receiver.proofs.clear_from.Statement.{statement}
+use Rattle.block_receiver.proofs.clear_from.Tie as tie
 
 returns : tie.Need-returns
 returns c = clear-whole (c .before .args .lo) (c .before .args .hi) (c .before .args .bits) (search needs) (search needs) (c .if1 .taken)

@@ -7,8 +7,8 @@ use denote.Ref.{now}
 use Rattle.layout.specs.Block.{load}
 use Rattle.receiver.specs.Valid.{v3At}
 use Rattle.block_packet.proofs.Halves.{value-words}
-use Rattle.block_valid.proofs.receiving.Statement.{statement}
-use Rattle.block_valid.proofs.receiving.Tie as tie
+use Rattle.block_receiver.proofs.receiving.Statement.{statement}
+use Rattle.block_receiver.proofs.receiving.Tie as tie
 
 shared-slice-read-bits : tie.Need-shared-slice-read-bits
 shared-slice-read-bits c = search needs

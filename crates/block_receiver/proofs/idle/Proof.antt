@@ -4,9 +4,9 @@ use borrow.Author.Tests.{eq-eqb, ne-eqb, not-true, not-false}
 use mathlib.Core.Path.{sym, _∙_}
 use Rattle.layout.specs.Block.{load}
 use Rattle.receiver.specs.Valid.{v3At}
-use Rattle.block_valid.proofs.Bytes.{zero-value}
-use Rattle.block_valid.proofs.idle.Statement.{statement}
-use Rattle.block_valid.proofs.idle.Tie as tie
+use Rattle.block_receiver.proofs.Bytes.{zero-value}
+use Rattle.block_receiver.proofs.idle.Statement.{statement}
+use Rattle.block_receiver.proofs.idle.Tie as tie
 
 shared-slice-read-if1 : tie.Need-shared-slice-read-if1
 shared-slice-read-if1 c = search needs

@@ -8,9 +8,9 @@ use Rattle.parts.specs.Parts.{stageAt}
 use Rattle.layout.specs.Block.{load, stageOf}
 use Rattle.layout.specs.Valid.{v3}
 use Rattle.receiver.specs.Valid as receiver
-use Rattle.block_valid.proofs.Bytes.{part-bytes}
-use Rattle.block_valid.proofs.v3.Statement.{statement}
-use Rattle.block_valid.proofs.v3.Tie as tie
+use Rattle.block_receiver.proofs.Bytes.{part-bytes}
+use Rattle.block_receiver.proofs.v3.Statement.{statement}
+use Rattle.block_receiver.proofs.v3.Tie as tie
 
 shared-slice-read-stage : tie.Need-shared-slice-read-stage
 shared-slice-read-stage c = search needs

@@ -12,8 +12,8 @@ use Rattle.bits.specs.Zero.{zeros}
 use Rattle.layout.specs.Block.{load}
 use Rattle.receiver.specs.Count.{countOf}
 use Rattle.receiver.specs.Valid.{later}
-use Rattle.block_valid.proofs.some_in.Statement.{statement}
-use Rattle.block_valid.proofs.some_in.Tie as tie
+use Rattle.block_receiver.proofs.some_in.Statement.{statement}
+use Rattle.block_receiver.proofs.some_in.Tie as tie
 
 shared-slice-read-received : tie.Need-shared-slice-read-received
 shared-slice-read-received c = search needs
