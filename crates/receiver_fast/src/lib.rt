@@ -8,7 +8,7 @@ ghost use Rattle.receiver.specs.declared.Stage.the-variants.{Receiving};
 ghost use Rattle.receiver_run.specs.Run.{runs, portOf, endedOf, Ready};
 ghost use Rattle.receiver_polling.specs.Passing.{Passed};
 ghost use Rattle.receiver_fast.specs.Fast.{released};
-use bits::eight;
+use bits_eight::eight;
 use receiver::Receiver;
 use receiver::Stage;
 use receiver::stage_number;
