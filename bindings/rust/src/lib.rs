@@ -1,169 +1,86 @@
-//! The command unit of the Super Game Boy. [`Unit`] owns its block, which is always valid, so refusals 1 and 2 only meet a saved
-//! block that is brought in; [`calls`] has every call over slices of the caller's own.
+//! The command unit of the Super Game Boy, proved in Rattle, behind a safe interface.
+//!
+//! A Game Boy game talks to the Super Game Boy by writes to its joypad register, and sends pages of data as screens. [`Unit`] takes both
+//! and draws the picture of 256 by 224 colours:
+//!
+//! ```
+//! use sporedrift::{MaskMode, SCREEN, Unit};
+//!
+//! let mut unit = Unit::post_boot();
+//!
+//! // MASK_EN 2: the screen goes black. A game sends a command as joypad writes.
+//! let mut command = [0; 16];
+//! command[..2].copy_from_slice(&[0xB9, 0x02]);
+//! let writes = sporedrift::encode(&command)?;
+//! unit.play_all(&writes, |received| assert_eq!(received.as_bytes(), command));
+//! assert_eq!(unit.mask_mode(), MaskMode::Black);
+//!
+//! // A screen of the game: 160 by 144 shades, four to a byte.
+//! unit.update_screen(&[0x1B; SCREEN])?;
+//! let picture = unit.picture();
+//! assert_eq!(picture[112 * 256 + 128].to_rgb8(), [0, 0, 0]);
+//! # Ok::<(), sporedrift::Refusal>(())
+//! ```
+//!
+//! A unit's block is always valid, so most of its methods can't fail and answer a plain value. What may be refused is what a caller
+//! brings: a saved block, a screen, a place, a command, a line of a log. [`Refusal`] says why. [`calls`] has every call of the C header
+//! over slices of the caller's own.
+//!
+//! The crate links `libsporedrift`: see its README for where that is looked for.
+
+#![deny(missing_docs, missing_debug_implementations, unsafe_op_in_unsafe_fn)]
 
 pub mod calls;
+mod line;
+mod refusal;
+mod unit;
+mod words;
 
 use std::fmt;
 
+pub use line::{Line, lines, parse_line};
+pub use refusal::Refusal;
+pub use unit::{Command, MaskMode, Played, Transfer, Unit};
+pub use words::{BorderMapEntry, Rgb555};
+
+/// The bytes of a unit's block, which is also its saved form.
 pub const BLOCK: usize = 30_020;
+/// The bytes of a screen: 160 by 144 shades, row by row, four to a byte, the first in the high bits.
 pub const SCREEN: usize = 5_760;
+/// The pixels of a row of a screen.
+pub const SCREEN_WIDTH: usize = 160;
+/// The rows of a screen.
+pub const SCREEN_HEIGHT: usize = 144;
+/// The bytes of the longest command: seven packets.
 pub const COMMAND: usize = 112;
+/// The bytes of a packet.
 pub const PACKET: usize = 16;
+/// The joypad writes that send one packet.
 pub const PACKET_WRITES: usize = 260;
+/// The most joypad writes that one call of [`Unit::play`] takes.
+pub const PLAY: usize = 1_048_576;
+/// The most bytes of a line of a log: writes, or a screen.
+pub const LINE: usize = 5_760;
+/// The pixels of a row of the picture.
 pub const WIDTH: usize = 256;
+/// The rows of the picture.
 pub const HEIGHT: usize = 224;
+/// The words of the picture.
 pub const PICTURE: usize = WIDTH * HEIGHT;
+/// The bytes of a tile of the border: 8 by 8 colour indices, in four bit planes.
 pub const TILE: usize = 32;
+/// The bytes of the border's 256 tiles.
+pub const TILES: usize = 8_192;
 
-const LIVE_AT: usize = 8_420;
-const FROZEN_AT: usize = 14_180;
-const TILES_AT: usize = 19_940;
-const TILES_END: usize = 28_132;
-
-/// A refusal by its number.
-#[derive(Clone, Copy, Debug, PartialEq, Eq)]
-pub struct Refusal(pub u8);
-
-impl fmt::Display for Refusal {
-    fn fmt(&self, f: &mut fmt::Formatter) -> fmt::Result {
-        let why = match self.0 {
-            1 => "the block's length is not 30,020",
-            2 => "the block is not valid",
-            3 => "the screen's length is not 5,760",
-            4 => "a column, row or shade is outside what is asked about",
-            5 => "the command is empty, or its length is not what its first byte tells",
-            6 => "the output is short",
-            _ => "unknown",
-        };
-        write!(f, "refusal {}: {why}", self.0)
-    }
-}
-
-impl std::error::Error for Refusal {}
-
-/// What a screen made land.
-#[derive(Clone, Copy, Debug, PartialEq, Eq)]
-pub enum Landed {
-    Palettes,
-    AttributeFiles,
-    BorderTiles { upper_half: bool },
-    BorderMap,
-}
-
-/// A unit and its whole state.
-#[derive(Clone, PartialEq, Eq)]
-pub struct Unit {
-    block: Box<[u8]>,
-}
-
-impl Unit {
-    /// A fresh unit.
-    pub fn new() -> Self {
-        let mut block = vec![0; BLOCK].into_boxed_slice();
-        calls::new(&mut block).expect("the block has its length");
-        Unit { block }
-    }
-
-    /// A fresh unit as the boot leaves it.
-    pub fn post_boot() -> Self {
-        let mut block = vec![0; BLOCK].into_boxed_slice();
-        calls::post_boot(&mut block).expect("the block has its length");
-        Unit { block }
-    }
-
-    /// A unit that was saved. Refusals 1, 2.
-    pub fn load(saved: &[u8]) -> Result<Self, Refusal> {
-        calls::check(saved)?;
-        Ok(Unit {
-            block: saved.into(),
-        })
-    }
-
-    /// The unit as it is saved.
-    pub fn as_bytes(&self) -> &[u8] {
-        &self.block
-    }
-
-    /// A write to the joypad register: the bytes of the command that it completes, which is carried out.
-    pub fn write_joypad(&mut self, value: u8) -> Result<Option<Vec<u8>>, Refusal> {
-        let mut command = [0; COMMAND];
-        let packets = calls::write_joypad(&mut self.block, value, &mut command)?;
-        Ok(packets.map(|n| command[..n as usize * PACKET].to_vec()))
-    }
-
-    /// A screen that the game shows: what it makes land. Refusal 3.
-    pub fn update_screen(&mut self, screen: &[u8]) -> Result<Option<Landed>, Refusal> {
-        let kind = calls::update_screen(&mut self.block, screen)?;
-        Ok(kind.map(|number| match number {
-            0 => Landed::Palettes,
-            1 => Landed::AttributeFiles,
-            4 => Landed::BorderMap,
-            half => Landed::BorderTiles {
-                upper_half: half == 3,
-            },
-        }))
-    }
-
-    /// 0 shown, 1 frozen, 2 black, 3 backdrop.
-    pub fn mask_mode(&self) -> Result<u8, Refusal> {
-        calls::mask_mode(&self.block)
-    }
-
-    pub fn backdrop(&self) -> Result<u16, Refusal> {
-        calls::backdrop(&self.block)
-    }
-
-    /// The colour of a shade at column x of row y of the screen, whatever the mask. Refusal 4.
-    pub fn color_at(&self, x: usize, y: usize, shade: u8) -> Result<u16, Refusal> {
-        calls::color_at(&self.block, x, y, shade)
-    }
-
-    /// The border's map word at a column of a row. Refusal 4.
-    pub fn map_entry(&self, column: usize, row: usize) -> Result<u16, Refusal> {
-        calls::map_entry(&self.block, column, row)
-    }
-
-    /// The border's colour at column x of row y of the picture, none where it is transparent. Refusal 4.
-    pub fn border_color_at(&self, x: usize, y: usize) -> Result<Option<u16>, Refusal> {
-        calls::border_color_at(&self.block, x, y)
-    }
-
-    /// The capture that is displayed.
-    pub fn displayed_screen(&self) -> Result<&[u8], Refusal> {
-        let (live, frozen) = (
-            &self.block[LIVE_AT..FROZEN_AT],
-            &self.block[FROZEN_AT..TILES_AT],
-        );
-        Ok(calls::displayed_screen(live, frozen, self.mask_mode()?))
-    }
-
-    /// A tile of the border; the empty part if the number is over 255.
-    pub fn tile(&self, n: usize) -> &[u8] {
-        calls::tile(&self.block[TILES_AT..TILES_END], n)
-    }
-
-    /// Row y of the picture. Refusal 4.
-    pub fn row(&self, y: usize) -> Result<[u16; WIDTH], Refusal> {
-        let mut words = [0; WIDTH];
-        calls::row(&self.block, y, &mut words)?;
-        Ok(words)
-    }
-
-    /// The picture, row by row.
-    pub fn picture(&self) -> Result<Vec<u16>, Refusal> {
-        let mut words = vec![0; PICTURE];
-        calls::picture(&self.block, &mut words)?;
-        Ok(words)
-    }
-}
-
-impl Default for Unit {
-    fn default() -> Self {
-        Unit::new()
-    }
-}
-
-/// The joypad writes that send a command. Refusal 5.
+/// The joypad writes that send a command: 260 for each of its packets. [`Refusal::Command`] if its length is not what its first byte
+/// tells.
+///
+/// ```
+/// let writes = sporedrift::encode(&[0x01; 16])?;
+/// assert_eq!(writes.len(), 260);
+/// assert_eq!(writes[..4], [0x00, 0x30, 0x10, 0x30]);
+/// # Ok::<(), sporedrift::Refusal>(())
+/// ```
 pub fn encode(command: &[u8]) -> Result<Vec<u8>, Refusal> {
     let mut writes = vec![0; PACKET_WRITES * COMMAND / PACKET];
     let n = calls::encode(command, &mut writes)?;
@@ -171,7 +88,46 @@ pub fn encode(command: &[u8]) -> Result<Vec<u8>, Refusal> {
     Ok(writes)
 }
 
-/// Whether a command conforms to Pan Docs' list. Refusal 5.
+/// Whether a command conforms to Pan Docs' list of commands. [`Refusal::Command`] if its length is not what its first byte tells.
+///
+/// ```
+/// let mut command = [0; 16];
+/// command[0] = 0xB9; // MASK_EN, one packet
+/// assert_eq!(sporedrift::verdict(&command), Ok(true));
+/// command[0] = 0xD1; // no command of Pan Docs
+/// assert_eq!(sporedrift::verdict(&command), Ok(false));
+/// ```
 pub fn verdict(command: &[u8]) -> Result<bool, Refusal> {
     calls::verdict(command)
+}
+
+/// A version of the library.
+#[derive(Clone, Copy, Debug, PartialEq, Eq, PartialOrd, Ord, Hash)]
+pub struct Version {
+    /// The first of its three numbers.
+    pub major: u8,
+    /// The second.
+    pub minor: u8,
+    /// The third.
+    pub patch: u8,
+}
+
+impl fmt::Display for Version {
+    fn fmt(&self, f: &mut fmt::Formatter<'_>) -> fmt::Result {
+        write!(f, "{}.{}.{}", self.major, self.minor, self.patch)
+    }
+}
+
+/// The version of the library that is linked.
+///
+/// ```
+/// assert_eq!(sporedrift::version().to_string(), env!("CARGO_PKG_VERSION"));
+/// ```
+pub fn version() -> Version {
+    let [_, major, minor, patch] = calls::version().to_be_bytes();
+    Version {
+        major,
+        minor,
+        patch,
+    }
 }
