@@ -50,7 +50,8 @@ fn installed() -> Option<Found> {
 
 fn fail(why: &str) -> ! {
     println!("cargo::error={why}: {WHAT_TO_DO}");
-    process::exit(1);
+    // cargo stops at that error; another status would bury it among lines of its own
+    process::exit(0);
 }
 
 fn main() {
