@@ -199,7 +199,9 @@ class Refusals(Case):
         self.assertEqual(parse_line(b"0100fF"), (LineKind.WRITES, b"\x00\xFF"))
         self.assertEqual(parse_line(b"01" * 5761), (LineKind.WRITES, b"\x01" * 5760))
         self.assertEqual(parse_line(screen), (LineKind.SCREEN, b"\x1B" * 5760))
-        for text in (b"", b"0", b"00", b"03", b"013", b"0130\r", b"01 30", b"0130\n", b"0x30", b"01" * 5762, screen[:-2], screen + b"00"):
+        lines = [b"", b"0", b"00", b"03", b"013", b"0130\r", b"01 30", b"0130\n", b"0x30", b"01" * 5762, screen[:-2], screen + b"00"]
+        lines += [b"01" + pair for c in b"\r \t\0/:@G`g\xB1" for pair in (bytes([c]) + b"0", b"0" + bytes([c]))]
+        for text in lines:
             self.refused(7, parse_line, text)
             said = self.refused(7, plate, b"0130\n" + text + b"\n0130\n") if text != b"0130\n" else None
             self.assertTrue(said is None or said.line == 2)

@@ -231,6 +231,11 @@ fn lines_that_are_none_change_nothing() {
         assert_eq!(calls::parse_line(text, &mut short), Err(Refusal::Output));
         assert!(short.iter().all(|byte| *byte == 0x77));
     }
+    for other in *b"\r \t\0\n/:@G`g\xB1" {
+        for text in [[b'0', b'1', other, b'0'], [b'0', b'1', b'0', other]] {
+            assert_eq!(calls::parse_line(&text, &mut [0; LINE]), Err(Refusal::Line));
+        }
+    }
     let longer = b"01".repeat(LINE + 2);
     assert_eq!(
         calls::parse_line(&longer, &mut [0; LINE]),
