@@ -178,7 +178,8 @@ class Refusals(Case):
         self.refused(2, Unit.load, broken)
         for length in (0, 5759, 5761):
             self.refused(3, unit.update_screen, bytes(length))
-        for x, y, shade in ((160, 0, 0), (0, 144, 0), (0, 0, 4), (-1, 0, 0), (0, -1, 0), (0, 0, -1), (0, 0, 256), (1 << 32, 0, 0), (1 << 64, 0, 0)):
+        outside = [(160, 0, 0), (0, 144, 0), (0, 0, 4), (-1, 0, 0), (0, -1, 0), (0, 0, -1), (0, 0, 256), (1 << 32, 0, 0), (1 << 64, 0, 0)]
+        for x, y, shade in outside:
             self.refused(4, unit.color_at, x, y, shade)
         for column, row in ((32, 0), (0, 28), (-1, 0), (0, 1 << 64)):
             self.refused(4, unit.map_entry, column, row)
