@@ -146,6 +146,18 @@ pub fn write_joypad(
 
 /// Joypad writes in a row, up to and with the first that completes a command: how many were taken, and the packets of the command,
 /// whose bytes are then at the front of `command`; 0 if none was completed. Refusals 1, 2, 6.
+///
+/// ```
+/// use sporedrift::{BLOCK, COMMAND, calls};
+///
+/// let (mut block, mut command) = ([0; BLOCK], [0; COMMAND]);
+/// calls::post_boot(&mut block)?;
+/// let mut writes = [0; 260];
+/// calls::encode(&[0xF1; 16], &mut writes)?;
+/// assert_eq!(calls::play(&mut block, &writes, &mut command), Ok((259, 1)));
+/// assert_eq!(command[..16], [0xF1; 16]);
+/// # Ok::<(), sporedrift::Refusal>(())
+/// ```
 pub fn play(block: &mut [u8], writes: &[u8], command: &mut [u8]) -> Result<(usize, u32), Refusal> {
     let answer = unsafe {
         c::sporedrift_play(
@@ -277,6 +289,14 @@ pub enum LineKind {
 
 /// One line of a log, without its line feed: what its bytes are, and how many of them now stand at the front of `bytes`.
 /// Refusals 6, 7.
+///
+/// ```
+/// use sporedrift::calls::{self, LineKind};
+///
+/// let mut bytes = [0; sporedrift::LINE];
+/// assert_eq!(calls::parse_line(b"013020", &mut bytes), Ok((LineKind::Writes, 2)));
+/// assert_eq!(bytes[..2], [0x30, 0x20]);
+/// ```
 pub fn parse_line(text: &[u8], bytes: &mut [u8]) -> Result<(LineKind, usize), Refusal> {
     let answer = unsafe {
         c::sporedrift_parse_line(text.as_ptr(), text.len(), bytes.as_mut_ptr(), bytes.len())

@@ -16,6 +16,13 @@ const FROZEN_AT: usize = 14_180;
 const TILES_AT: usize = 19_940;
 
 /// What the screen's part of the picture shows, as the command MASK_EN sets it.
+///
+/// ```
+/// use sporedrift::{MaskMode, Unit};
+///
+/// assert_eq!(Unit::new().mask_mode(), MaskMode::Shown);
+/// assert_eq!(MaskMode::Backdrop.number(), 3);
+/// ```
 #[derive(Clone, Copy, Debug, PartialEq, Eq, Hash)]
 pub enum MaskMode {
     /// 0: the screens of the game.
@@ -45,6 +52,12 @@ impl MaskMode {
 }
 
 /// What a screen brings to the unit when a transfer lands.
+///
+/// ```
+/// use sporedrift::Transfer;
+///
+/// assert_eq!(Transfer::BorderTiles { upper_half: true }.number(), 3);
+/// ```
 #[derive(Clone, Copy, Debug, PartialEq, Eq, Hash)]
 pub enum Transfer {
     /// 0: the 512 system palettes (PAL_TRN).
@@ -85,6 +98,16 @@ impl Transfer {
 
 /// A command that the unit received and carried out: one to seven packets of sixteen bytes. It prints as `replay` prints it, in
 /// upper-case hexadecimal.
+///
+/// ```
+/// use sporedrift::{Unit, encode};
+///
+/// let mut unit = Unit::post_boot();
+/// let command = unit.play(&encode(&[0xF1; 16])?).command.expect("it is complete");
+/// assert_eq!((command.code(), command.packets()), (0x1E, 1));
+/// assert_eq!(command.to_string(), "F1".repeat(16));
+/// # Ok::<(), sporedrift::Refusal>(())
+/// ```
 #[derive(Clone, Copy)]
 pub struct Command {
     bytes: [u8; COMMAND],
@@ -145,6 +168,7 @@ impl fmt::Debug for Command {
 
 /// What [`Unit::play`] did.
 #[derive(Clone, Copy, Debug, PartialEq, Eq)]
+#[must_use = "the writes that it did not take go into the next call"]
 pub struct Played {
     /// How many of the writes it took. What is left goes into the next call.
     pub taken: usize,
@@ -193,6 +217,15 @@ impl Unit {
     }
 
     /// A unit that was saved. [`Refusal::Length`] or [`Refusal::Block`] if these bytes are not the block of one.
+    ///
+    /// ```
+    /// use sporedrift::{BLOCK, Refusal, Unit};
+    ///
+    /// let mut saved = Unit::new().as_bytes().to_vec();
+    /// assert!(Unit::load(&saved).is_ok());
+    /// saved[0] = 4; // no mask mode
+    /// assert_eq!(Unit::load(&saved), Err(Refusal::Block));
+    /// ```
     pub fn load(saved: &[u8]) -> Result<Self, Refusal> {
         calls::check(saved)?;
         let copy: Box<[u8]> = saved.into();
@@ -293,6 +326,20 @@ impl Unit {
     }
 
     /// Which pad the game reads next, from 0, as MLT_REQ and the polls leave it.
+    ///
+    /// ```
+    /// use sporedrift::{Unit, encode};
+    ///
+    /// let mut unit = Unit::post_boot();
+    /// let mut mlt_req = [0; 16];
+    /// mlt_req[..2].copy_from_slice(&[0x89, 0x01]); // two pads
+    /// unit.play_all(&encode(&mlt_req)?, |_| ());
+    /// assert_eq!(unit.joypad_mask(), 1);
+    /// let first = unit.joypad_index();
+    /// unit.play_all(&[0x10, 0x30], |_| ()); // a poll
+    /// assert_ne!(unit.joypad_index(), first);
+    /// # Ok::<(), sporedrift::Refusal>(())
+    /// ```
     pub fn joypad_index(&self) -> u8 {
         self.block[JOYPAD_INDEX_AT]
     }
@@ -303,6 +350,17 @@ impl Unit {
     }
 
     /// The transfer that is pending, and at which screen from now it lands: 1 is the next.
+    ///
+    /// ```
+    /// use sporedrift::{Transfer, Unit, encode};
+    ///
+    /// let mut unit = Unit::post_boot();
+    /// let mut pal_trn = [0; 16];
+    /// pal_trn[0] = 0x59;
+    /// unit.play_all(&encode(&pal_trn)?, |_| ());
+    /// assert_eq!(unit.pending(), Some((3, Transfer::Palettes)));
+    /// # Ok::<(), sporedrift::Refusal>(())
+    /// ```
     pub fn pending(&self) -> Option<(u8, Transfer)> {
         let kind = || Transfer::of(self.block[TRANSFER_AT].into());
         match self.block[COUNTDOWN_AT] {
@@ -324,22 +382,49 @@ impl Unit {
 
     /// The colour of a shade (0 to 3) at column x (below 160) of row y (below 144) of the screen, whatever the mask.
     /// [`Refusal::Place`] if one of them is outside.
+    ///
+    /// ```
+    /// use sporedrift::{Refusal, Rgb555, Unit};
+    ///
+    /// let unit = Unit::new();
+    /// assert_eq!(unit.color_at(159, 143, 0), Ok(Rgb555(0x67BF)));
+    /// assert_eq!(unit.color_at(160, 143, 0), Err(Refusal::Place));
+    /// ```
     pub fn color_at(&self, x: usize, y: usize, shade: u8) -> Result<Rgb555, Refusal> {
         calls::color_at(&self.block[..], x, y, shade)
     }
 
     /// The border's map word at a column (below 32) of a row (below 28). [`Refusal::Place`] outside.
+    ///
+    /// ```
+    /// use sporedrift::{BorderMapEntry, Unit};
+    ///
+    /// assert_eq!(Unit::new().map_entry(31, 27), Ok(BorderMapEntry(0)));
+    /// ```
     pub fn map_entry(&self, column: usize, row: usize) -> Result<BorderMapEntry, Refusal> {
         calls::map_entry(&self.block[..], column, row)
     }
 
     /// The border's colour at column x (below 256) of row y (below 224) of the picture, none where it is transparent.
     /// [`Refusal::Place`] outside.
+    ///
+    /// ```
+    /// assert_eq!(sporedrift::Unit::new().border_color_at(0, 0), Ok(None));
+    /// ```
     pub fn border_color_at(&self, x: usize, y: usize) -> Result<Option<Rgb555>, Refusal> {
         calls::border_color_at(&self.block[..], x, y)
     }
 
     /// The capture that is displayed, [`SCREEN`] bytes: the frozen one where the mask mode is frozen, else the live one.
+    ///
+    /// ```
+    /// use sporedrift::{SCREEN, Unit};
+    ///
+    /// let mut unit = Unit::post_boot();
+    /// unit.update_screen(&[0x1B; SCREEN])?;
+    /// assert_eq!(unit.displayed_screen(), [0x1B; SCREEN]);
+    /// # Ok::<(), sporedrift::Refusal>(())
+    /// ```
     pub fn displayed_screen(&self) -> &[u8] {
         let live = &self.block[LIVE_AT..][..SCREEN];
         let frozen = &self.block[FROZEN_AT..][..SCREEN];
@@ -347,12 +432,26 @@ impl Unit {
     }
 
     /// The [`TILE`] bytes of a tile of the border, none if its number is over 255.
+    ///
+    /// ```
+    /// use sporedrift::{TILE, Unit};
+    ///
+    /// assert_eq!(Unit::new().tile(255), Some(&[0; TILE][..]));
+    /// assert_eq!(Unit::new().tile(256), None);
+    /// ```
     pub fn tile(&self, n: usize) -> Option<&[u8]> {
         let tile = calls::tile(&self.block[TILES_AT..][..TILES], n);
         (tile.len() == TILE).then_some(tile)
     }
 
     /// Row y (below 224) of the picture. [`Refusal::Place`] outside.
+    ///
+    /// ```
+    /// use sporedrift::{HEIGHT, Refusal, Rgb555, Unit, WIDTH};
+    ///
+    /// assert_eq!(Unit::new().row(0), Ok([Rgb555(0x67BF); WIDTH]));
+    /// assert_eq!(Unit::new().row(HEIGHT), Err(Refusal::Place));
+    /// ```
     pub fn row(&self, y: usize) -> Result<[Rgb555; WIDTH], Refusal> {
         let mut words = [Rgb555(0); WIDTH];
         calls::row(&self.block[..], y, &mut words)?;
@@ -376,6 +475,15 @@ impl Unit {
     }
 
     /// The picture into memory of the caller's own, for who draws one after the other.
+    ///
+    /// ```
+    /// use sporedrift::{PICTURE, Rgb555, Unit};
+    ///
+    /// let unit = Unit::new();
+    /// let mut words = [Rgb555(0); PICTURE];
+    /// unit.picture_into(&mut words);
+    /// assert_eq!(words[..], unit.picture());
+    /// ```
     pub fn picture_into(&self, words: &mut [Rgb555; PICTURE]) {
         sure(calls::picture(&self.block[..], &mut words[..]));
     }
