@@ -15,7 +15,7 @@ system looks for libraries.
 """
 
 from ._calls import Refusal, library_version
-from ._log import LineKind, Line, parse_line, plate
+from ._log import Line, LineKind, parse_line, plate
 from ._picture import HEIGHT, WIDTH, BorderMapEntry, Picture, Rgb555
 from ._unit import BLOCK, COMMAND, PACKET, PACKET_WRITES, SCREEN, MaskMode, Played, Transfer, Unit, encode, verdict
 
@@ -45,3 +45,9 @@ __all__ = [
     "plate",
     "verdict",
 ]
+
+# Messages and pickled objects name the module that people import.
+for _name in __all__:
+    if callable(globals()[_name]):
+        globals()[_name].__module__ = __name__
+del _name
