@@ -4,6 +4,7 @@ A program of Rattle has no exit status of its own: it says on standard error wha
 own input, and is read a second time up to a refused line. Any other input (a pipe, a terminal) can't be: it goes through this script, which
 looks at its lines on the way."""
 
+import fcntl
 import os
 import signal
 import stat
@@ -11,7 +12,7 @@ import subprocess
 import threading
 
 from reasons import Passing, Refusals, Reread
-from talk import Failed, cant_write, say
+from talk import Failed, cant_write, put, say
 
 START = os.path.join(os.path.dirname(os.path.realpath(__file__)), "..", "programs", "start")
 CHUNK = 1 << 16
@@ -29,6 +30,14 @@ def command(name, caller):
     return [os.fsdecode(word) for word in started.stdout.split(b"\n")[:-1]]
 
 
+def wide(pipe):
+    """Gives a pipe room for more, so that its two ends wait less for each other."""
+    try:
+        fcntl.fcntl(pipe, 1031, 1 << 20)  # F_SETPIPE_SZ
+    except OSError:
+        pass  # a user's pipes may have no more room
+
+
 class Feeder(threading.Thread):
     """Hands input that can't be read twice to the program, and looks at each line on the way."""
 
@@ -38,6 +47,7 @@ class Feeder(threading.Thread):
 
     def run(self):
         to = self.child.stdin.fileno()
+        wide(to)
         try:
             while True:
                 part = self.part()
@@ -45,8 +55,7 @@ class Feeder(threading.Thread):
                 self.causes.feed(part) if part else self.causes.end()
                 if not part:
                     break
-                while part:
-                    part = part[os.write(to, part) :]
+                put(to, part)
         except BrokenPipeError:
             pass  # the program ended first, as `plate` does at a refused line
         self.child.stdin.close()

@@ -1,6 +1,7 @@
 """Why a line of a log is refused. The verdict is the program's: what stands here only looks for the cause of a line that the program
 refused, in memory that does not grow with the log or with the line. docs/LOG.md has the table of these causes."""
 
+import operator
 import os
 import re
 
@@ -8,6 +9,7 @@ MOST_WRITES = SCREEN = 5760
 LONGEST = 2 + 2 * 5760  # digits
 DIGITS = b"0123456789ABCDEFabcdef"
 NO_DIGIT = re.compile(rb"[^0-9A-Fa-f]")
+KIND = operator.itemgetter(slice(2))
 CHUNK = 1 << 18
 
 # What a compressed file begins with.
@@ -29,17 +31,30 @@ class OfAll(str):
     """A cause that lies in the whole log: of the lines behind it nothing more is worth a word."""
 
 
+def fits(kind, size):
+    """Whether a line of so many digits, of which the first two are these, has the form of one."""
+    return kind == b"02" and size == LONGEST or kind == b"01" and size <= LONGEST and size % 2 == 0
+
+
+def all_fit(text, lines):
+    """Whether all lines of a text of digits do: there are few sorts of them. Many short lines are mostly writes, and sooner told."""
+    if len(lines) > 100 and text.startswith(b"01") and text.count(b"\n01") == len(lines) - 1:
+        return all(fits(b"01", size) for size in set(map(len, lines)))
+    return all(fits(*sort) for sort in set(zip(map(KIND, lines), map(len, lines))))
+
+
 class Line:
     """What is known of one line, which comes in parts, without its LF."""
 
     def __init__(self, number):
         self.number, self.size, self.head, self.bad = number, 0, b"", None
 
-    def feed(self, part):
+    def feed(self, part, digits=False):
+        """digits: that the part has nothing else is known."""
         if len(self.head) < 8:
             self.head += part[: 8 - len(self.head)]
         # taking all digits away is several times quicker than the search, which then finds one
-        if self.bad is None and part.translate(None, DIGITS):
+        if self.bad is None and not digits and part.translate(None, DIGITS):
             at = NO_DIGIT.search(part).start()
             self.bad = self.size + at, part[at]
         self.size += len(part)
@@ -143,27 +158,27 @@ class Passing:
     def feed(self, part):
         if self.full():
             return
-        first, *more = part.split(b"\n")
-        self.line.feed(first)
-        if not more:
-            return
+        digits = not part.translate(None, DIGITS + b"\n")
+        start, end = part.find(b"\n"), part.rfind(b"\n")
+        if start < 0:
+            return self.line.feed(part, digits)
+        self.line.feed(part[:start], digits)
         self.ended()
-        if len(more) > 1:
-            self.whole(more[:-1], not part.translate(None, DIGITS + b"\n"))
         self.line = Line(self.line.number + 1)
-        self.line.feed(more[-1])
+        if start < end:
+            self.whole(part[start + 1 : end], digits)
+        self.line.feed(part[end + 1 :], digits)
 
-    def whole(self, lines, digits):
-        """Whole lines, behind the one before. Where all are of digits, most need a look at their size alone."""
-        number = self.line.number
-        for text in lines:
-            number += 1
-            size = len(text)
-            if digits and size & 1 == 0 and (size == LONGEST and text[:2] == b"02" or size <= LONGEST and text[:2] == b"01"):
-                continue
+    def whole(self, text, digits):
+        """Whole lines. Where all have the form of one, no line is looked at alone."""
+        lines, number = text.split(b"\n"), self.line.number
+        if digits and all_fit(text, lines):
+            lines, number = (), number + len(lines)
+        for line in lines:
             self.line = Line(number)
-            self.line.feed(text)
+            self.line.feed(line, digits)
             self.ended()
+            number += 1
         self.line = Line(number)
 
     def ended(self):
