@@ -3,7 +3,7 @@
 - a device, a pipe, a descriptor (-, /dev/stdout, /dev/fd/N) is written through;
 - a link stays, and what it leads to gets the picture, whether it was there or not;
 - a file is replaced at once by a whole one of the same owner and mode. Where that can't be (its folder is closed to us, it has more names,
-  or rights beyond its mode), it is written in place, once there is room for all;
+  or rights beyond its mode), it is written in place, once there is room for all, and put back if that fails;
 - a folder is refused."""
 
 import errno
@@ -101,15 +101,22 @@ class Target:
             raise
 
     def in_place(self, data):
-        fd = os.open(self.path, os.O_WRONLY | os.O_CLOEXEC)
         try:
-            try:
-                os.posix_fallocate(fd, 0, len(data))
-            except OSError:
-                os.ftruncate(fd, self.old.st_size)
-                raise
+            fd = os.open(self.path, os.O_RDWR | os.O_CLOEXEC)
+            before = os.pread(fd, len(data), 0)
+        except PermissionError:
+            # it may be written and not read
+            fd, before = os.open(self.path, os.O_WRONLY | os.O_CLOEXEC), b""
+        try:
+            os.posix_fallocate(fd, 0, len(data))
             put(fd, data)
             os.ftruncate(fd, len(data))
+        except BaseException:
+            # as far as it goes: what was written over, and the size
+            done = os.lseek(fd, 0, os.SEEK_CUR)
+            os.pwrite(fd, before[:done], 0)
+            os.ftruncate(fd, self.old.st_size)
+            raise
         finally:
             os.close(fd)
 

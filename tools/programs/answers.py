@@ -122,7 +122,7 @@ def pictures(t, p, log, stored):
     with tempfile.TemporaryDirectory() as folder:
         names = [os.path.join(folder, name) for name in ("dusk.ppm", "dusk.png")]
         for name in names:
-            drawn = p.draw(os.path.join(p.root, "samples", "dusk.log"), name)
+            drawn = p.bin("draw", os.path.join(p.root, "samples", "dusk.log"), name)
             t.check(f"bin/draw: {os.path.basename(name)}", drawn.status == 0 and os.path.exists(name), drawn.show)
         pixmap, png = (open(name, "rb").read() if os.path.exists(name) else b"" for name in names)
     t.check("bin/draw: a pixmap of its size", pixmap.startswith(b"P6\n256 224\n255\n") and len(pixmap) == 15 + 3 * 57344)
