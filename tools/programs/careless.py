@@ -1,85 +1,84 @@
 #!/usr/bin/env python3
-"""careless.py FAULT COMMAND ARGUMENTS..: stands in for a command of bin/ that has a fault. COMMAND is the true one; the fault is in what
-it is given, in what comes of it, or in how a picture is put in its place. The tests must fail on each: see CARELESS in main.py."""
+"""careless.py FAULT COMMAND ARGUMENTS..: stands in for a command of bin/ that has a fault, and is the true COMMAND in all else. The tests
+must fail on each: see CARELESS in main.py."""
 
 import os
 import re
-import shutil
+import stat
 import subprocess
 import sys
 import tempfile
 
 fault, command, words = sys.argv[1], sys.argv[2], sys.argv[3:]
-name = os.path.basename(command)
+# what draw is asked to write
+picture = words[-1] if len(words) > 1 else ""
+ending = os.path.splitext(picture)[1]
 
 
-def run(words, **how):
-    return subprocess.run([command, *words], stdout=subprocess.PIPE, stderr=subprocess.PIPE, **how)
+def run(*words):
+    return subprocess.run([command, *words], stdout=subprocess.PIPE, stderr=subprocess.PIPE)
 
 
-def end(ended, status=None):
-    """Passes on what the true command did."""
-    out, said, status = ended.stdout, ended.stderr, ended.returncode if status is None else status
+def before():
+    """The fault that is done first."""
+    if fault == "truncates" and os.path.isfile(picture):
+        os.truncate(picture, 0)
+    if fault == "no-dash" and words[-1:] == ["-"]:
+        words[-1] = "./-"
+    if fault == "no-dashes" and "--" in words:
+        words.remove("--")
+
+
+def drawn():
+    """The true command's draw, or one that gets to its place by a fault."""
+    if fault == "replaces" and os.path.lexists(picture) and not os.path.isdir(picture):
+        return moved(".png" if ending == ".png" else ".ppm", picture)
+    if fault == "fills-folders" and os.path.isdir(picture):
+        return moved(".ppm", os.path.join(picture, "drawn"))
+    if fault == "any-ending" and ending.lower() not in ("", ".png", ".ppm"):
+        return moved(".ppm", picture)
+    if fault == "small-png" and ending.lower() == ".png" != ending:
+        return moved(".ppm", picture)
+    return run(*words)
+
+
+def moved(ending, place):
+    with tempfile.TemporaryDirectory(dir=".") as folder:
+        made = os.path.join(folder, "made" + ending)
+        ended = run(*words[:-1], made)
+        if os.path.exists(made):
+            os.rename(made, place)
+        return ended
+
+
+def after(out, said, status):
+    """The fault in what is told."""
+    if fault == "mode-lost" and os.path.isfile(picture):
+        os.chmod(picture, 0o644)
+    if fault == "part-left":
+        open(".draw-part", "wb").close()
     if fault == "silent":
         said = b""
     if fault == "column":
         said = re.sub(rb"column (\d+)", lambda m: b"column %d" % (int(m[1]) - 1), said)
-    if fault == "tells-all":
-        said = re.sub(rb"(\d+) more lines? (is|are) refused", lambda m: b"line 11 is refused: it is empty", said)
-    if fault == "one-way" and not os.path.isfile("/dev/stdin"):
+    if fault == "one-way" and not stat.S_ISREG(os.fstat(0).st_mode):
         said = re.sub(rb" is refused: .*", b" is refused", said)
-    if fault == "no-status":
-        status = 0
+    if fault == "more-lost":
+        said = re.sub(rb".* more lines? .*\n", b"", said)
     if fault == "two-words" and said:
         said += b"plate: it has failed\n"
-    if fault == "chatty" and words[-1] == "-" and status == 0:
+    if fault == "chatty" and words[-1:] == ["-"] and status == 0:
         out += b"draw: -\n"
-    os.write(2, said)
+    return out, said, 0 if fault == "no-status" else status
+
+
+before()
+ended = drawn()
+out, said, status = after(ended.stdout, ended.stderr, ended.returncode)
+for fd, text in ((2, said), (1, out)):
     try:
-        sys.stdout.buffer.write(out)
-        sys.stdout.buffer.flush()
+        while text:
+            text = text[os.write(fd, text) :]
     except OSError:
-        os._exit(1)
-    os._exit(status)
-
-
-def drawn():
-    """A draw whose fault is in how the picture gets to its place."""
-    *others, picture = words
-    ending = ".png" if re.search(r"\.png$" if fault == "small-png" else r"(?i)\.png$", picture) else ".ppm"
-    if fault == "truncates" and os.path.isfile(picture):
-        open(picture, "wb").close()
-    if fault == "any-ending" and re.search(r"\.\w+$", picture):
-        picture = re.sub(r"\.\w+$", ending, picture)
-        ended = run([*others, picture])
-        if ended.returncode == 0:
-            os.rename(picture, words[-1])
-        end(ended)
-    with tempfile.TemporaryDirectory() as folder:
-        made = os.path.join(folder, f"made{ending}")
-        ended = run([*others, made])
-        if ended.returncode:
-            end(run(words) if not os.path.exists(picture) else ended)
-        if fault == "part-left":
-            shutil.copy(made, os.path.join(os.path.dirname(picture), ".draw-part"))
-        if os.path.isdir(picture) and fault != "fills-folders":
-            end(run(words))
-        if fault == "replaces" or fault == "fills-folders":
-            target = picture if fault == "replaces" else os.path.realpath(picture)
-            shutil.move(made, target)
-        elif fault == "mode-lost":
-            shutil.copyfile(made, picture)
-            os.chmod(os.path.realpath(picture), 0o644)
-        else:
-            shutil.copyfile(made, picture)
-        end(ended)
-
-
-if fault == "no-dash" and "-" in words:
-    words[words.index("-")] = "./-"
-plain = words and words[-1] not in ("-", "/dev/stdout") and len(words) == 2 and not words[0].startswith("-") and not words[1].endswith("/")
-if name == "draw" and plain and fault in ("replaces", "truncates", "mode-lost", "fills-folders", "any-ending", "small-png", "part-left"):
-    # pipes and devices are the true command's, but where the fault is to replace them
-    if fault == "replaces" or not os.path.exists(words[1]) or os.path.isfile(words[1]) or os.path.isdir(words[1]):
-        drawn()
-end(run(words))
+        status = status or 1
+os._exit(status)

@@ -156,8 +156,15 @@ def bounded(t, what, base, ended):
     t.note(f"{what}: {told}")
 
 
-def words(t, p, few=False):
-    """What the commands in bin/ say to one who calls them wrongly, or asks what they do. One failure is one message, by the command's name."""
+def words(t, p, few=False, parts=("wrongly", "asked", "named")):
+    """What the commands in bin/ say to one who calls them wrongly, or asks what they do. One failure is one message, by the command's name.
+    parts: these functions alone."""
+    for part in (wrongly, asked, named):
+        if part.__name__ in parts:
+            part(t, p)
+
+
+def wrongly(t, p):
     with tempfile.TemporaryDirectory() as folder:
         log, picture = os.path.join(folder, "a.log"), os.path.join(folder, "a.ppm")
         for what, text, said in (
@@ -190,8 +197,6 @@ def words(t, p, few=False):
     with open("/dev/full", "wb") as full:
         ended = p.bin("ppm", stdin=answers.BLANK, stdout=full)
         t.check("bin/ppm: output is full", one_message("ppm", ended, 1, b"write: No space left"), ended.show)
-    asked(t, p)
-    named(t, p)
 
 
 def one_message(name, ended, status, *parts):
@@ -225,7 +230,7 @@ def named(t, p):
         with tempfile.TemporaryDirectory() as folder:
             with open(os.path.join(folder, "-x"), "wb") as file:
                 file.write(given)
-            for words in (("-",), ("--",), ("--", "-")):
+            for words in (("-",), ("--", "-")):
                 t.same(f"bin/{name}: {' '.join(words)} is standard input", p.bin(name, *words, stdin=given), due)
             for words in (("--", "-x"), ("./-x",)):
                 t.same(f"bin/{name}: {' '.join(words)} is a file", p.bin(name, *words, cwd=folder), due)

@@ -52,20 +52,33 @@ FAULTS = {
     ("replay", "memory"): "nothing",
     ("plate", "memory"): "nothing",
     ("plate", "words"): "no-refusals",
-    ("replay", "reasons"): "from-0 no-refusals",
-    ("plate", "reasons"): "from-0 goes-on",
-    ("plate", "drawing"): "row-lost no-refusals",
+    ("replay", "reasons of_lines"): "from-0 no-refusals",
+    ("replay", "reasons agreement"): "blanks",
+    ("plate", "reasons of_plates"): "from-0 goes-on",
+    ("plate", "drawing endings"): "row-lost",
+    ("plate", "drawing failing"): "no-refusals",
 }
 
 
-# Likewise each fault of careless.py, by the command of bin/ that has it.
+# Likewise each fault of careless.py, by the command of bin/ that has it, and by the part of a suite that is about it.
 CARELESS = {
-    ("draw", "drawing"): "replaces truncates mode-lost fills-folders any-ending small-png chatty no-status two-words part-left",
-    ("replay", "reasons"): "silent column tells-all one-way",
-    ("plate", "reasons"): "silent no-status",
-    ("replay", "words"): "no-dash no-status two-words",
-    ("ppm", "words"): "no-dash no-status",
-    ("draw", "words"): "no-status two-words",
+    ("draw", "drawing devices"): "replaces no-status two-words",
+    ("draw", "drawing pipes"): "replaces",
+    ("draw", "drawing links"): "replaces truncates",
+    ("draw", "drawing folders"): "fills-folders",
+    ("draw", "drawing older"): "replaces mode-lost truncates part-left",
+    ("draw", "drawing endings"): "any-ending small-png",
+    ("draw", "drawing descriptors"): "chatty",
+    ("draw", "drawing names"): "no-dashes",
+    ("draw", "drawing failing"): "truncates silent",
+    ("replay", "reasons of_lines"): "silent column one-way",
+    ("plate", "reasons of_plates"): "silent no-status one-way",
+    ("replay", "reasons of_starts"): "silent more-lost",
+    ("replay", "reasons many"): "more-lost",
+    ("replay", "words"): "no-status two-words",
+    ("replay", "words named"): "no-dash no-dashes",
+    ("ppm", "words named"): "no-dash",
+    ("draw", "words"): "no-status",
 }
 
 
@@ -188,24 +201,24 @@ def faults(t, o, words):
         return Programs(o, words, commands={name: stand_in("careless.py", fault, [os.path.join(ROOT, "bin", name)])})
 
     def seen(place):
-        make, name, suite, fault = place
+        make, name, (suite, *parts), fault = place
         started = time.monotonic()
         try:
-            SUITES[suite](Report(fault=name), make(name, fault), few=True)
+            SUITES[suite](Report(fault=name), make(name, fault), few=True, **({"parts": parts} if parts else {}))
         except Seen as case:
             return place, f"seen by {case}, {time.monotonic() - started:.1f} s"
         return place, None
 
-    places = [(program, name, suite, fault) for (name, suite), names in FAULTS.items() for fault in names.split()]
-    places += [(command, name, suite, fault) for (name, suite), names in CARELESS.items() for fault in names.split()]
-    owed = [place for place in places if o.oracle or place[2] not in ("chance", "short")]
+    places = [(program, name, suite.split(), fault) for (name, suite), names in FAULTS.items() for fault in names.split()]
+    places += [(command, name, suite.split(), fault) for (name, suite), names in CARELESS.items() for fault in names.split()]
+    owed = [place for place in places if o.oracle or place[2][0] not in ("chance", "short")]
     if len(owed) < len(places):
         t.left_out("faults that only the Rust's answers show: it is not at hand")
     with ThreadPoolExecutor(os.cpu_count()) as pool:
         for (_, name, suite, fault), case in pool.map(seen, owed):
-            t.check(f"the fault {fault} of {name} is not seen by {suite}", case is not None)
+            t.check(f"the fault {fault} of {name} is not seen by {' '.join(suite)}", case is not None)
             if case and o.verbose:
-                t.note(f"{fault} of {name} in {suite}: {case}")
+                t.note(f"{fault} of {name} in {' '.join(suite)}: {case}")
 
 
 def main():
