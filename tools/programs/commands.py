@@ -324,7 +324,7 @@ def both_ways(p, name, log):
 def reasons(t, p, few=False, parts=None):
     """Each cause by its words; that the answer and the status stay; that a cause is seen in just the lines that the program refuses.
     parts: these functions alone."""
-    every = (bounded, of_lines, of_plates, of_starts, many, agreement)
+    every = (bounded, of_lines, of_plates, of_starts, of_paper, many, agreement)
     side_by_side([part for part in every if parts is None or part.__name__ in parts], t, p)
 
 
@@ -356,6 +356,18 @@ def of_starts(t, p):
     for way, ended in both_ways(p, "replay", MARKED[0]):
         said = told("replay", f"line 1 is refused: {MARKED[1]}", "line 2 is refused: it is empty")
         t.check(f"bin/replay: a byte order mark, by {way}", ended.said == said and ended.status == 0, ended.show)
+
+
+def of_paper(t, p):
+    """The table of docs/LOG.md has the words that are said, of every sort of cause."""
+    rows = read(os.path.join(ROOT, "docs", "LOG.md")).decode().split("| what is said |")[-1].split("\n")[2:]
+    words = [row.split(" | ")[0][2:] for row in rows if row.startswith("| ")]
+    known = {cause for _, cause in (*CAUSES, *STARTS, MARKED)}
+    for cause in words:
+        t.check(f"docs/LOG.md: '{cause}' is what bin/replay says", cause in known)
+    sort = lambda cause: tuple(word for word in cause.replace("tab", "blank").replace("a screen of", "").split() if word.isalpha() and word not in ("the", "byte"))
+    missing = {sort(cause) for cause in known} - {sort(cause) for cause in words}
+    t.check("docs/LOG.md: every sort of cause that bin/replay says", not missing, lambda: str(missing))
 
 
 def many(t, p):
