@@ -102,11 +102,11 @@ def run(name, caller, fd, take, tell):
         for text in iter(lambda: os.read(child.stdout.fileno(), CHUNK), b""):
             take(text)
             refusals.feed(text)
-    except OSError as why:
+    except BaseException as why:
         child.kill()
-        raise Failed(1, cant_write(why))
+        raise Failed(1, cant_write(why)) if isinstance(why, OSError) else why
     status = child.wait()
-    if feeder and feeder.failed:
+    if feeder and feeder.failed and status < 0:
         raise Failed(1, feeder.failed)
     listener.join()
     ended(caller, status, os.fsdecode(listener.said))

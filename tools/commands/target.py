@@ -66,7 +66,7 @@ class Target:
         try:
             if self.through is not None:
                 put(self.through, data)
-            elif self.old and (self.old.st_nlink > 1 or os.listxattr(self.path)):
+            elif self.old and (self.old.st_nlink > 1 or more_rights(self.path)):
                 self.in_place(data)
             else:
                 self.replace(data)
@@ -127,6 +127,14 @@ def descriptor(name):
     if name == "-" or name == "/dev/stdout":
         return 1
     return None if not found else 2 if name == "/dev/stderr" else int(found[1])
+
+
+def more_rights(path):
+    """Whether a file has a list of rights, or notes of a user's, that another one in its place would lack."""
+    try:
+        return any(name.startswith(("user.", "system.posix_acl")) for name in os.listxattr(path))
+    except OSError:
+        return False  # the file system has none
 
 
 def open_one(fd):

@@ -91,7 +91,7 @@ def side_by_side(parts, *given):
 
 def drawing(t, p, few=False, parts=None):
     """What draw writes, to what, and what it leaves as it was. parts: these functions alone."""
-    every = (devices, pipes, links, older, failing, folders, endings, descriptors, names)
+    every = (devices, pipes, links, older, failing, folders, endings, descriptors, rights, names)
     with tempfile.TemporaryDirectory() as folder:
         desk = Desk(t, p, folder)
         t.check("bin/ppm: both forms are one picture", answers.pixels(desk.png) == desk.pixmap[15:] and len(desk.pixmap) == 15 + 3 * 57344)
@@ -202,6 +202,12 @@ def older(d):
         d.check("the owner stays", ended.status == 0 and (found.st_uid, found.st_gid, stat.S_IMODE(found.st_mode)) == (NOBODY, NOBODY, 0o606), ended.show)
     else:
         d.t.left_out("the owner of a picture: only root can give a file away")
+    try:
+        os.setxattr(d.at("old.png"), "user.note", b"dusk")
+        ended = d.draw("good.log", "old.png")
+        d.check("a user's note on it stays", ended.status == 0 and os.getxattr(d.at("old.png"), "user.note") == b"dusk" and read(d.at("old.png")) == d.png)
+    except OSError as why:
+        d.t.left_out(f"a picture with a user's note on it: {why.strerror}")
     write(d.at("one.ppm"), b"kept" * 100000, mode=0o600)
     os.link(d.at("one.ppm"), d.at("two.ppm"))
     for room in (0, 1000):
@@ -225,6 +231,41 @@ def devices(d):
         stays = stat.S_ISCHR(found.st_mode) and found.st_rdev == os.makedev(1, minor)
         well = ended.status == 0 and not ended.said if status == 0 else said_once(ended, 1, b"No space left")
         d.check(f"a device, {name}", well and stays, ended.show)
+
+
+def rights(d):
+    """Files and folders that their mode closes. Root is kept out by no mode, so it tries this as nobody, where nobody can run a command."""
+    how = {"user": NOBODY, "group": NOBODY, "extra_groups": []} if os.geteuid() == 0 else {}
+    write(d.at("whole.plate"), read(os.path.join(ROOT, "samples", "dusk.plate")))
+    how["env"] = {"PLATE": f"cat {d.at('whole.plate')}"}
+    if os.geteuid() == 0:
+        how["env"]["PATH"] = "/usr/bin:/bin"
+        os.chmod(d.folder, 0o755)
+    with contextlib.suppress(OSError):
+        if d.draw("--version", **how).status == 0:
+            return closed(d, how)
+    d.t.left_out("files that are closed to us: nobody can't run bin/draw here")
+
+
+def closed(d, how):
+    own = lambda name: os.path.join("own", name)
+    os.makedirs(d.at("own", "shut"))
+    for name, mode in (("read.png", 0o444), ("write.png", 0o200), ("shut/old.png", 0o644), ("secret.log", 0o000)):
+        write(d.at(own(name)), mode=mode)
+    os.chmod(d.at("own", "shut"), 0o555)
+    for name in ("", "read.png", "write.png", "shut", "shut/old.png", "secret.log"):
+        if os.geteuid() == 0:
+            os.chown(d.at(own(name)), NOBODY, NOBODY)
+    for name, status, due in (("read.png", 1, b"kept"), ("write.png", 0, d.png), ("shut/old.png", 0, d.png), ("shut/new.png", 1, None)):
+        ended = d.draw("good.log", own(name), **how)
+        if name == "write.png":
+            os.chmod(d.at(own(name)), 0o600)
+        found = read(d.at(own(name))) if os.path.exists(d.at(own(name))) else None
+        well = not ended.said if status == 0 else said_once(ended, 1, b"can't be written")
+        d.check(f"closed by its mode: {name}", ended.status == status and well and found == due, ended.show)
+    ended = d.draw(own("secret.log"), own("new.png"), **how)
+    d.check("a log that can't be read", said_once(ended, 2, b"Permission denied") and not os.path.exists(d.at(own("new.png"))), ended.show)
+    os.chmod(d.at("own", "shut"), 0o755)
 
 
 def names(d):

@@ -70,6 +70,7 @@ CARELESS = {
     ("draw", "drawing endings"): "any-ending small-png",
     ("draw", "drawing descriptors"): "chatty",
     ("draw", "drawing names"): "no-dashes",
+    ("draw", "drawing rights"): "no-status",
     ("draw", "drawing failing"): "truncates silent",
     ("replay", "reasons of_lines"): "silent column one-way",
     ("plate", "reasons of_plates"): "silent no-status one-way",
