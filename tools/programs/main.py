@@ -70,7 +70,6 @@ CARELESS = {
     ("draw", "drawing endings"): "any-ending small-png",
     ("draw", "drawing descriptors"): "chatty",
     ("draw", "drawing names"): "no-dashes",
-    ("draw", "drawing rights"): "no-status",
     ("draw", "drawing failing"): "truncates silent",
     ("replay", "reasons of_lines"): "silent column one-way",
     ("plate", "reasons of_plates"): "silent no-status one-way",
@@ -224,6 +223,8 @@ def faults(t, o, words):
 
 def main():
     o = options()
+    # the commands run by the python that runs this, and not by way of a manager of versions, which takes its time
+    os.environ["PATH"] = os.pathsep.join((os.path.dirname(sys.executable), os.environ["PATH"]))
     words = {name: words_of(name) for name in ("replay", "plate")}
     programs = Programs(o, words)
     passed = failed = 0
