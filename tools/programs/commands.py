@@ -2,6 +2,7 @@
 which a stand-in for rt does here."""
 
 import contextlib
+import functools
 import os
 import shutil
 import stat
@@ -53,6 +54,12 @@ def new_mode():
     return 0o666 & ~mask
 
 
+@functools.lru_cache(maxsize=None)
+def sample(form):
+    """The sample's picture."""
+    return picture(read(os.path.join(ROOT, "samples", "dusk.plate")), form)
+
+
 class Desk:
     """A folder to draw in, with the sample as good.log and a refused line in bad.log, and the two pictures that are due."""
 
@@ -60,9 +67,7 @@ class Desk:
         self.t, self.p, self.folder = t, p, folder
         write(self.at("good.log"), read(os.path.join(ROOT, "samples", "dusk.log")))
         write(self.at("bad.log"), BAD)
-        plate = read(os.path.join(ROOT, "samples", "dusk.plate"))
-        self.pixmap, self.png = (picture(plate, form) for form in ("ppm", "png"))
-        self.logs = {"good.log", "bad.log"}
+        self.pixmap, self.png = (sample(form) for form in ("ppm", "png"))
 
     def at(self, *names):
         return os.path.join(self.folder, *names)
@@ -78,7 +83,12 @@ class Desk:
 def reader(path):
     """Reads a named pipe to its end, at another's side: gives a list that has the bytes afterwards."""
     got = []
-    thread = threading.Thread(target=lambda: got.append(read(path)), daemon=True)
+
+    def take():
+        with contextlib.suppress(OSError):  # where a fault has taken the pipe away
+            got.append(read(path))
+
+    thread = threading.Thread(target=take, daemon=True)
     thread.start()
     yield got
     thread.join(20)
@@ -102,7 +112,13 @@ def drawing(t, p, few=False, parts=None):
 
 
 def endings(d):
-    for name, due in (("a.png", d.png), ("b.PNG", d.png), ("c.ppm", d.pixmap), ("d.Ppm", d.pixmap), ("plain", d.pixmap), (".png", d.png)):
+    write(d.at("e.jpg"))
+    for words in (("good.log", "e.jpg"), ("good.log", "new.gif"), ("good.log", "good.log"), ("--png", "good.log", "a.ppm"), ("--png", "--ppm", "good.log", "a")):
+        ended = d.draw(*words)
+        d.check(f"bad usage: {' '.join(words)}", said_once(ended, 2), ended.show)
+    kept = read(d.at("e.jpg")) == b"kept" and not os.path.exists(d.at("new.gif")) and len(read(d.at("good.log"))) == 205862
+    d.check("bad usage: nothing is written", kept)
+    for name, due in (("b.PNG", d.png), ("a.png", d.png), ("c.ppm", d.pixmap), ("d.Ppm", d.pixmap), ("plain", d.pixmap), (".png", d.png)):
         ended = d.draw("good.log", name)
         whole = os.path.exists(d.at(name)) and read(d.at(name)) == due and mode_of(d.at(name)) == new_mode()
         d.check(f"the ending of {name}", ended.status == 0 and whole and not ended.said, ended.show)
@@ -110,12 +126,6 @@ def endings(d):
             os.unlink(d.at(name))
     ended = d.draw("--png", "good.log", "plain")
     d.check("--png for a name without an ending", ended.status == 0 and read(d.at("plain")) == d.png, ended.show)
-    write(d.at("e.jpg"))
-    for words in (("good.log", "e.jpg"), ("good.log", "new.gif"), ("good.log", "good.log"), ("--png", "good.log", "a.ppm"), ("--png", "--ppm", "good.log", "a")):
-        ended = d.draw(*words)
-        d.check(f"bad usage: {' '.join(words)}", said_once(ended, 2), ended.show)
-    kept = read(d.at("e.jpg")) == b"kept" and not os.path.exists(d.at("new.gif")) and len(read(d.at("good.log"))) == 205862
-    d.check("bad usage: nothing is written", kept)
 
 
 def descriptors(d):

@@ -52,33 +52,29 @@ FAULTS = {
     ("replay", "memory"): "nothing",
     ("plate", "memory"): "nothing",
     ("plate", "words"): "no-refusals",
-    ("replay", "reasons of_lines"): "from-0 no-refusals",
+    ("replay", "reasons of_lines"): "from-0",
     ("replay", "reasons agreement"): "blanks",
-    ("plate", "reasons of_plates"): "from-0 goes-on",
-    ("plate", "drawing endings"): "row-lost",
+    ("plate", "reasons of_plates"): "goes-on",
     ("plate", "drawing failing"): "no-refusals",
 }
 
 
 # Likewise each fault of careless.py, by the command of bin/ that has it, and by the part of a suite that is about it.
 CARELESS = {
-    ("draw", "drawing devices"): "replaces no-status two-words",
+    ("draw", "drawing devices"): "replaces",
     ("draw", "drawing pipes"): "replaces",
     ("draw", "drawing links"): "replaces truncates",
     ("draw", "drawing folders"): "fills-folders",
-    ("draw", "drawing older"): "replaces mode-lost truncates part-left",
+    ("draw", "drawing older"): "mode-lost part-left",
     ("draw", "drawing endings"): "any-ending small-png",
     ("draw", "drawing descriptors"): "chatty",
     ("draw", "drawing names"): "no-dashes",
-    ("draw", "drawing failing"): "truncates silent",
-    ("replay", "reasons of_lines"): "silent column one-way",
-    ("plate", "reasons of_plates"): "silent no-status one-way",
-    ("replay", "reasons of_starts"): "silent more-lost",
+    ("draw", "drawing failing"): "truncates two-words",
+    ("replay", "reasons of_lines"): "column one-way",
+    ("plate", "reasons of_plates"): "silent no-status",
     ("replay", "reasons many"): "more-lost",
-    ("replay", "words"): "no-status two-words",
     ("replay", "words named"): "no-dash no-dashes",
-    ("ppm", "words named"): "no-dash",
-    ("draw", "words"): "no-status",
+    ("replay", "words wrongly"): "no-status",
 }
 
 
