@@ -9,20 +9,20 @@ sys.path.insert(0, os.path.dirname(os.path.realpath(__file__)))
 
 import program
 from pictures import PLATE, NoPlate, picture
-from talk import Failed, arguments, cant_write, opened, put, say, stand_up
+from talk import CALLED, Failed, arguments, cant_write, opened, put, say, stand_up
 from target import Target, descriptor
 
 FORMS = {".png": "png", ".ppm": "ppm"}
 USAGE = {
-    "draw": "bin/draw [--png | --ppm] LOG PICTURE",
-    "plate": "bin/plate [LOG]",
-    "ppm": "bin/ppm [--png | --ppm] [PLATE] >PICTURE",
-    "replay": "bin/replay [LOG]",
+    "draw": f"{CALLED}draw [--png | --ppm] LOG PICTURE",
+    "plate": f"{CALLED}plate [LOG]",
+    "ppm": f"{CALLED}ppm [--png | --ppm] [PLATE] >PICTURE",
+    "replay": f"{CALLED}replay [LOG]",
 }
 
 
 def usage(name):
-    return Failed(2, f"usage: {USAGE[name]} (bin/{name} --help tells more)")
+    return Failed(2, f"usage: {USAGE[name]} ({CALLED}{name} --help tells more)")
 
 
 def one_input(name, names, what, closed):
@@ -79,7 +79,7 @@ def ppm(name, words, closed):
 def draw(name, words, closed):
     options, names = arguments(name, words, ("--png", "--ppm"), closed)
     if not names:
-        raise Failed(2, f"no log given: {USAGE[name]}, as bin/draw samples/dusk.log dusk.ppm")
+        raise Failed(2, f"no log given: {USAGE[name]}, as {CALLED}draw samples/dusk.log dusk.ppm")
     if len(names) != 2:
         raise usage(name)
     log, drawn = names

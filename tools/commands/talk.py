@@ -7,6 +7,8 @@ import os
 import stat
 
 ROOT = os.path.join(os.path.dirname(os.path.realpath(__file__)), "..", "..")
+# How a person calls a command: by its path in the repository, or by the name that tools/install gave it, where the folder programs/ is.
+CALLED = "sporedrift-" if os.path.isdir(os.path.join(ROOT, "programs")) else "bin/"
 
 
 class Failed(Exception):
@@ -67,7 +69,7 @@ def arguments(name, words, options, closed):
         elif word in options:
             found.append(word)
         else:
-            raise Failed(2, f"no option {word} (bin/{name} --help tells of all; for a file of that name: -- {word})")
+            raise Failed(2, f"no option {word} ({CALLED}{name} --help tells of all; for a file of that name: -- {word})")
     return found, names
 
 
@@ -83,7 +85,7 @@ def answer(text, closed):
 
 def helped(name):
     with open(os.path.join(os.path.dirname(os.path.realpath(__file__)), "help", name), encoding="ascii") as file:
-        return file.read()
+        return file.read().replace("bin/", CALLED)
 
 
 def version(name):
