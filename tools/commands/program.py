@@ -104,6 +104,7 @@ def run(name, caller, fd, take, tell):
             refusals.feed(text)
     except BaseException as why:
         child.kill()
+        child.wait()
         raise Failed(1, cant_write(why)) if isinstance(why, OSError) else why
     status = child.wait()
     if feeder and feeder.failed and status < 0:

@@ -214,10 +214,12 @@ def older(d):
         d.t.left_out("the owner of a picture: only root can give a file away")
     try:
         os.setxattr(d.at("old.png"), "user.note", b"dusk")
-        ended = d.draw("good.log", "old.png")
-        d.check("a user's note on it stays", ended.status == 0 and os.getxattr(d.at("old.png"), "user.note") == b"dusk" and read(d.at("old.png")) == d.png)
     except OSError as why:
         d.t.left_out(f"a picture with a user's note on it: {why.strerror}")
+    else:
+        ended = d.draw("good.log", "old.png")
+        noted = "user.note" in os.listxattr(d.at("old.png"))
+        d.check("a user's note on it stays", ended.status == 0 and noted and read(d.at("old.png")) == d.png, ended.show)
     write(d.at("one.ppm"), b"kept" * 100000, mode=0o600)
     os.link(d.at("one.ppm"), d.at("two.ppm"))
     for room in (0, 1000):
@@ -280,7 +282,12 @@ def closed(d, how):
 
 def names(d):
     shutil.copy(d.at("good.log"), d.at("-x.log"))
-    for words, made in ((("--", "-x.log", "-y.png"), "-y.png"), (("./-x.log", "./-z.ppm"), "-z.ppm"), (("--png", "--", "-x.log", "--help"), "--help")):
+    for words, made in (
+        (("--", "-x.log", "-y.png"), "-y.png"),
+        (("./-x.log", "./-z.ppm"), "-z.ppm"),
+        (("good.log", "--", "-w.ppm"), "-w.ppm"),
+        (("--png", "--", "-x.log", "--help"), "--help"),
+    ):
         ended = d.draw(*words)
         d.check(f"a leading -: {' '.join(words)}", ended.status == 0 and os.path.exists(d.at(made)) and not ended.said, ended.show)
     for words in (("-x.log", "y.png"), ("good.log", "-y.gif"), ("--jpg", "good.log", "y.jpg")):
@@ -433,6 +440,10 @@ def many(t, p):
         t.check(f"bin/replay: a last line without LF, by {way}", ended.said == said, ended.show)
     for way, ended in both_ways(p, "replay", b"01\n01003020\n"):
         t.check(f"bin/replay: no word of a good log, by {way}", ended.status == 0 and not ended.said, ended.show)
+    # the last byte that one read gets of a longer line
+    for way, ended in both_ways(p, "replay", b"0" * (causes.CHUNK - 1) + b"\r00\n"):
+        said = told("replay", f"line 1 is refused: the byte 0D at column {causes.CHUNK:,} is no hexadecimal digit")
+        t.check(f"bin/replay: a carriage return at the end of a read, by {way}", ended.said == said, ended.show)
     # from the middle of a file, line 1 is the first that is read
     with tempfile.TemporaryFile() as file:
         file.write(b"\n\n01\n01 \n")

@@ -66,7 +66,7 @@ def writing(t, p, few=False):
         refuses(t, p, "output is closed", name, whole, stdin=log, stdout="closed")
         with_descriptor(lambda fd: refuses(t, p, "output is full", name, whole, stdin=log, stdout=fd), "/dev/full", os.O_WRONLY)
         with_descriptor(lambda fd: refuses(t, p, "output is for reading", name, whole, stdin=log, stdout=fd), os.devnull, os.O_RDONLY)
-        for most in (0, 1, 100, len(whole) // 2, len(whole) - 27, len(whole) - 2, len(whole) - 1):
+        for most in (1, len(whole) - 1) if few else (0, 1, 100, len(whole) // 2, len(whole) - 27, len(whole) - 2, len(whole) - 1):
             # the limit is on every file, so with room for nothing the program's own word has none either: bin/ takes it by a pipe
             for via in (p.run, p.bin) if most else (p.bin,):
                 ended = via(name, stdin=log, settings=[f"room{most}"])
