@@ -8,7 +8,10 @@ import stat
 
 ROOT = os.path.join(os.path.dirname(os.path.realpath(__file__)), "..", "..")
 # How a person calls a command: by its path in the repository, or by the name that tools/install gave it, where the folder programs/ is.
-CALLED = "sporedrift-" if os.path.isdir(os.path.join(ROOT, "programs")) else "bin/"
+INSTALLED = os.path.isdir(os.path.join(ROOT, "programs"))
+CALLED = "sporedrift-" if INSTALLED else "bin/"
+# Where the papers are that a text of --help names.
+PAPERS = os.path.normpath(os.path.join(ROOT, "../../share/doc/sporedrift/docs")) + "/" if INSTALLED else "docs/"
 
 
 class Failed(Exception):
@@ -85,7 +88,7 @@ def answer(text, closed):
 
 def helped(name):
     with open(os.path.join(os.path.dirname(os.path.realpath(__file__)), "help", name), encoding="ascii") as file:
-        return file.read().replace("bin/", CALLED)
+        return file.read().replace("bin/", CALLED).replace("docs/", PAPERS)
 
 
 def version(name):
