@@ -1,4 +1,4 @@
-/* Sporedrift: the command unit of the Super Game Boy, for C (C99 and later) and C++.
+/* Sporedrift: the command unit of the Super Game Boy, for C (C99 and later) and C++ (C++11 and later).
  *
  * The unit's whole state is one block of 30,020 bytes, which is also its saved form. The caller owns the block and every other
  * byte: the calls keep nothing, allocate nothing, and may run at once on different blocks. They are proved (crates/export): each
@@ -8,8 +8,10 @@
  * - A slice is two arguments, a pointer and the number of elements that it points at; the pointer is not NULL, even for none.
  * - What is lent to be written (a pointer that is not to const) does not overlap anything else that is lent in the same call, and
  *   nothing else touches lent memory until the call is back.
+ * - Alignment: bytes may stand anywhere, the block too. The words of a row and of the picture are uint16_t and stand as those do,
+ *   at an even address; an array of uint16_t does, and so does what malloc gives.
  *
- * An answer is one number (crates/export/specs/Coded.antt). Its low byte is 0 for a value, which stands above it; the number of a
+ * An answer is one number (docs/RULES.md, 2.8). Its low byte is 0 for a value, which stands above it; the number of a
  * refusal; or SPOREDRIFT_NONE for an answer that is "none". The lowest refusal wins, and a refusal changes no lent byte.
  */
 #ifndef SPOREDRIFT_H
@@ -22,36 +24,114 @@
 extern "C" {
 #endif
 
+/* ---- the version of this header; sporedrift_version tells that of the library which is linked */
+
+#define SPOREDRIFT_VERSION_MAJOR 0
+#define SPOREDRIFT_VERSION_MINOR 1
+#define SPOREDRIFT_VERSION_PATCH 0
+#define SPOREDRIFT_VERSION "0.1.0"
+#define SPOREDRIFT_VERSION_NUMBER (SPOREDRIFT_VERSION_MAJOR * 65536 + SPOREDRIFT_VERSION_MINOR * 256 + SPOREDRIFT_VERSION_PATCH)
+
+/* The value is the library's version, made as SPOREDRIFT_VERSION_NUMBER is. Refuses nothing. */
+uint32_t sporedrift_version(void);
+
 /* ---- answers */
 
 #define SPOREDRIFT_NONE 0x80u
 
-#define SPOREDRIFT_REFUSED_LENGTH 1u  /* the block's length is not SPOREDRIFT_BLOCK (refusals: docs/RULES.md, 2.1) */
-#define SPOREDRIFT_REFUSED_BLOCK 2u   /* the block is not valid; new and post_boot make a valid one, and calls keep it so */
-#define SPOREDRIFT_REFUSED_SCREEN 3u  /* the screen's length is not SPOREDRIFT_SCREEN */
-#define SPOREDRIFT_REFUSED_PLACE 4u   /* there is no such column, row or shade (docs/RULES.md, 2.5) */
-#define SPOREDRIFT_REFUSED_COMMAND 5u /* no command: not 16 bytes for each packet that its first byte counts */
-#define SPOREDRIFT_REFUSED_OUTPUT 6u  /* the output lent has no room for the call's longest result (docs/RULES.md, 2.6) */
+enum sporedrift_refused { /* docs/RULES.md, 2.1 */
+    SPOREDRIFT_REFUSED_LENGTH = 1,  /* the block's length is not SPOREDRIFT_BLOCK */
+    SPOREDRIFT_REFUSED_BLOCK = 2,   /* the block is not valid; new and post_boot make a valid one, and calls keep it so */
+    SPOREDRIFT_REFUSED_SCREEN = 3,  /* the screen's length is not SPOREDRIFT_SCREEN */
+    SPOREDRIFT_REFUSED_PLACE = 4,   /* there is no such column, row or shade (docs/RULES.md, 2.5) */
+    SPOREDRIFT_REFUSED_COMMAND = 5, /* no command: not 16 bytes for each packet that its first byte counts */
+    SPOREDRIFT_REFUSED_OUTPUT = 6,  /* the output lent has no room for the call's longest result (docs/RULES.md, 2.6) */
+    SPOREDRIFT_REFUSED_LINE = 7     /* the text is no line of a log (docs/RULES.md, 8.2) */
+};
 
 /* The number of the refusal, or 0: then sporedrift_value has the value, unless the answer is SPOREDRIFT_NONE. */
 static inline uint32_t sporedrift_refusal(uint32_t answer) { return answer & 0x7Fu; }
 static inline uint32_t sporedrift_value(uint32_t answer) { return answer >> 8; }
 
-/* ---- sizes, in elements, and where the parts that two calls are lent start in the block */
+/* The refusal of an answer in words, for a message; NULL if it refuses nothing. */
+static inline const char *sporedrift_refusal_text(uint32_t answer) {
+    switch (sporedrift_refusal(answer)) {
+    case 0: return NULL;
+    case SPOREDRIFT_REFUSED_LENGTH: return "the block is not 30,020 bytes";
+    case SPOREDRIFT_REFUSED_BLOCK: return "the block is not valid";
+    case SPOREDRIFT_REFUSED_SCREEN: return "the screen is not 5,760 bytes";
+    case SPOREDRIFT_REFUSED_PLACE: return "there is no such column, row or shade";
+    case SPOREDRIFT_REFUSED_COMMAND: return "the command is empty, or is not as long as its first byte tells";
+    case SPOREDRIFT_REFUSED_OUTPUT: return "the output is short";
+    case SPOREDRIFT_REFUSED_LINE: return "the text is no line of a log";
+    default: return "a refusal that this header does not know";
+    }
+}
+
+/* ---- sizes, in elements */
 
 #define SPOREDRIFT_BLOCK 30020u
 #define SPOREDRIFT_SCREEN 5760u       /* 144 rows of 160 shades, packed from the high bits down (docs/RULES.md, 1.2) */
 #define SPOREDRIFT_COMMAND 112u       /* the longest command: seven packets */
 #define SPOREDRIFT_PACKET 16u
 #define SPOREDRIFT_PACKET_WRITES 260u /* joypad writes that send one packet */
+#define SPOREDRIFT_PLAY 1048576u      /* the most joypad writes that one call of sporedrift_play takes */
+#define SPOREDRIFT_LINE 5760u         /* the most bytes of a line of a log: writes, or a screen */
+#define SPOREDRIFT_SCREEN_WIDTH 160u
+#define SPOREDRIFT_SCREEN_HEIGHT 144u
 #define SPOREDRIFT_WIDTH 256u
 #define SPOREDRIFT_HEIGHT 224u
 #define SPOREDRIFT_PICTURE 57344u     /* SPOREDRIFT_WIDTH * SPOREDRIFT_HEIGHT words */
-#define SPOREDRIFT_LIVE_AT 8420u      /* the live capture, SPOREDRIFT_SCREEN bytes */
-#define SPOREDRIFT_FROZEN_AT 14180u   /* the frozen capture, likewise */
-#define SPOREDRIFT_TILES_AT 19940u    /* the border's tiles */
-#define SPOREDRIFT_TILES 8192u
 #define SPOREDRIFT_TILE 32u           /* 8 by 8 colour indices, in four bit planes */
+
+/* ---- the block, for who wants to read it: where its bytes and parts stand. Words in it are little-endian, palette numbers and
+ * shades four to a byte, the first in the high bits. Whoever writes into it asks sporedrift_check before the next call. */
+
+enum sporedrift_at {
+    SPOREDRIFT_MASK_MODE_AT = 0,           /* enum sporedrift_mask */
+    SPOREDRIFT_JOYPAD_INDEX_AT = 1,        /* which pad is read next, from 0 */
+    SPOREDRIFT_JOYPAD_MASK_AT = 2,         /* the bits that the index may have: 0 for one pad, 1 for two, 3 for four */
+    SPOREDRIFT_P15_HIGH_AT = 3,            /* 0 or 1: the line P15 at the last write */
+    SPOREDRIFT_BOTH_HIGH_AT = 4,           /* 0 or 1: both lines at the last write */
+    SPOREDRIFT_RECEIVER_AT = 5,            /* enum sporedrift_receiver */
+    SPOREDRIFT_EXPECTED_AT = 6,            /* the packets of the command that is coming in; 0 before its first is in */
+    SPOREDRIFT_RECEIVED_AT = 7,            /* those of them that are in */
+    SPOREDRIFT_BIT_INDEX_AT = 8,           /* the data bits of the packet that is coming in, up to 128 */
+    SPOREDRIFT_PRESET_IN_FORCE_AT = 9,     /* 0 or 1: whether the palette of the start still colours the screen */
+    SPOREDRIFT_COUNTDOWN_AT = 10,          /* the screen from now at which a transfer lands, 1 to 3; 0 if none is pending */
+    SPOREDRIFT_TRANSFER_AT = 11,           /* enum sporedrift_transfer, where the countdown is not 0 */
+    SPOREDRIFT_FROZEN_PRESENT_AT = 12,     /* 0 or 1: whether there is a frozen capture */
+    SPOREDRIFT_CURRENT_PACKET_AT = 16,
+    SPOREDRIFT_PACKETS_AT = 32,
+    SPOREDRIFT_PRESET_AT = 144,
+    SPOREDRIFT_PALETTES_AT = 152,
+    SPOREDRIFT_ATTRIBUTES_AT = 184,
+    SPOREDRIFT_SYSTEM_PALETTES_AT = 274,
+    SPOREDRIFT_ATTRIBUTE_FILES_AT = 4370,
+    SPOREDRIFT_LIVE_AT = 8420,
+    SPOREDRIFT_FROZEN_AT = 14180,
+    SPOREDRIFT_TILES_AT = 19940,
+    SPOREDRIFT_MAP_AT = 28132,
+    SPOREDRIFT_MAP_PALETTES_AT = 29924
+};
+
+/* The bytes of the parts; the current packet has SPOREDRIFT_PACKET, the two captures SPOREDRIFT_SCREEN each. */
+#define SPOREDRIFT_FIRST 13u             /* the single bytes, up to SPOREDRIFT_FROZEN_PRESENT_AT */
+#define SPOREDRIFT_PACKETS 112u          /* the packets that are in */
+#define SPOREDRIFT_PRESET 8u             /* one palette: four words */
+#define SPOREDRIFT_PALETTES 32u          /* four palettes */
+#define SPOREDRIFT_ATTRIBUTES 90u        /* a palette number for each of 20 by 18 cells */
+#define SPOREDRIFT_SYSTEM_PALETTES 4096u /* 512 palettes */
+#define SPOREDRIFT_ATTRIBUTE_FILES 4050u /* 45 of SPOREDRIFT_ATTRIBUTES */
+#define SPOREDRIFT_TILES 8192u           /* the border's 256 tiles */
+#define SPOREDRIFT_MAP 1792u             /* the border's 32 by 28 map words */
+#define SPOREDRIFT_MAP_PALETTES 96u      /* the border's palettes 4 to 6, sixteen words each */
+
+enum sporedrift_receiver {
+    SPOREDRIFT_RECEIVER_IDLE = 0,
+    SPOREDRIFT_RECEIVER_RECEIVING = 1, /* in a packet */
+    SPOREDRIFT_RECEIVER_AWAITING = 2   /* between two packets of a command */
+};
 
 /* ---- blocks */
 
@@ -68,13 +148,38 @@ uint32_t sporedrift_check(const uint8_t *block, size_t block_len);
  * completed a command of n packets, which is carried out: its 16 * n bytes are at the front of `command`. */
 uint32_t sporedrift_write_joypad(uint8_t *block, size_t block_len, uint8_t value, uint8_t *command, size_t command_len);
 
-/* A screen that the game shows. Refusals 1, 2, 3; none; or what this screen made land: 0 system palettes, 1 attribute files, 2 and
- * 3 the border's lower and upper tiles, 4 the border's map and palettes. */
+/* Joypad writes in a row, up to and with the first that completes a command, which is carried out and stands at the front of
+ * `command`. Refusals 1, 2, 6 (a command buffer under SPOREDRIFT_COMMAND bytes). Of the answer, sporedrift_taken tells how many writes
+ * were taken and sporedrift_packets the packets of the command: 0 if none was completed, and then all writes were taken, or
+ * SPOREDRIFT_PLAY of a longer slice. What is left goes into the next call. It does what sporedrift_write_joypad does with one write
+ * after the other, and checks the block once: for many writes it is much quicker. */
+uint32_t sporedrift_play(uint8_t *block, size_t block_len, const uint8_t *writes, size_t writes_len, uint8_t *command,
+                         size_t command_len);
+
+static inline size_t sporedrift_taken(uint32_t played) { return sporedrift_value(played) >> 3; }
+static inline uint32_t sporedrift_packets(uint32_t played) { return sporedrift_value(played) & 7u; }
+
+/* A screen that the game shows. Refusals 1, 2, 3; none; or what this screen made land, an enum sporedrift_transfer. */
 uint32_t sporedrift_update_screen(uint8_t *block, size_t block_len, const uint8_t *screen, size_t screen_len);
+
+enum sporedrift_transfer {
+    SPOREDRIFT_TRANSFER_PALETTES = 0,        /* the system palettes */
+    SPOREDRIFT_TRANSFER_ATTRIBUTE_FILES = 1,
+    SPOREDRIFT_TRANSFER_LOWER_TILES = 2,     /* the border's tiles 0 to 127 */
+    SPOREDRIFT_TRANSFER_UPPER_TILES = 3,     /* the border's tiles 128 to 255 */
+    SPOREDRIFT_TRANSFER_MAP = 4              /* the border's map and palettes */
+};
 
 /* ---- what the unit shows. Colours are words of 15 bits, as the SNES has them */
 
-/* Refusals 1, 2; 0 shown, 1 frozen, 2 black, 3 backdrop. */
+enum sporedrift_mask {
+    SPOREDRIFT_MASK_SHOWN = 0,
+    SPOREDRIFT_MASK_FROZEN = 1,
+    SPOREDRIFT_MASK_BLACK = 2,
+    SPOREDRIFT_MASK_BACKDROP = 3
+};
+
+/* The mask mode, an enum sporedrift_mask. Refusals 1, 2. */
 uint32_t sporedrift_mask_mode(const uint8_t *block, size_t block_len);
 
 /* The colour of everything that nothing covers. Refusals 1, 2. */
@@ -126,6 +231,21 @@ uint32_t sporedrift_encode(const uint8_t *command, size_t command_len, uint8_t *
 
 /* Whether a command conforms to Pan Docs' list: 1 or 0. Refusal 5. */
 uint32_t sporedrift_verdict(const uint8_t *command, size_t command_len);
+
+/* ---- logs */
+
+enum sporedrift_line {
+    SPOREDRIFT_LINE_WRITES = 1, /* joypad writes, none or up to SPOREDRIFT_LINE */
+    SPOREDRIFT_LINE_SCREEN = 2  /* a screen, SPOREDRIFT_SCREEN bytes */
+};
+
+/* One line of a log, without the LF that ends it. Refusals 6 (an output under SPOREDRIFT_LINE bytes), 7. Of the answer,
+ * sporedrift_line_kind tells which line it is, an enum sporedrift_line, and sporedrift_line_bytes how many bytes of it now stand at the
+ * front of `bytes`: writes for sporedrift_play, or a screen for sporedrift_update_screen. */
+uint32_t sporedrift_parse_line(const uint8_t *text, size_t text_len, uint8_t *bytes, size_t bytes_len);
+
+static inline uint32_t sporedrift_line_kind(uint32_t parsed) { return sporedrift_value(parsed) & 7u; }
+static inline size_t sporedrift_line_bytes(uint32_t parsed) { return sporedrift_value(parsed) >> 3; }
 
 #ifdef __cplusplus
 }

@@ -1,5 +1,5 @@
 /* plate OUT.ppm: what a game sends to the unit, and the picture that comes of it. It prints each answer, and writes the picture.
- * examples/rust/examples/plate.rs is the same program over the Rust wrapper: both print examples/plate.stdout. */
+ * bindings/rust/examples/plate.rs is the same program over the Rust wrapper: both print examples/plate.stdout. */
 #include <stdio.h>
 #include <stdlib.h>
 #include <string.h>
@@ -43,7 +43,7 @@ static void send(const char *name, const uint8_t *command, size_t len) {
 static void show(void) { tell("  update_screen", sporedrift_update_screen(block, sizeof block, screen, sizeof screen)); }
 
 static void put_shade(unsigned x, unsigned y, unsigned shade) {
-    unsigned at = y * 160 + x;
+    unsigned at = y * SPOREDRIFT_SCREEN_WIDTH + x;
     screen[at / 4] = (uint8_t)(screen[at / 4] | shade << (6 - at % 4 * 2));
 }
 
@@ -97,8 +97,8 @@ static void map_page(uint8_t *page) {
 static void game_screen(void) {
     unsigned x, y;
     memset(screen, 0, sizeof screen);
-    for (y = 0; y < 144; y++)
-        for (x = 0; x < 160; x++) put_shade(x, y, (x / 16 + y / 12) % 4);
+    for (y = 0; y < SPOREDRIFT_SCREEN_HEIGHT; y++)
+        for (x = 0; x < SPOREDRIFT_SCREEN_WIDTH; x++) put_shade(x, y, (x / 16 + y / 12) % 4);
 }
 
 static void look(void) {

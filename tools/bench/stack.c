@@ -40,6 +40,9 @@ static uint8_t writes[7 * SPOREDRIFT_PACKET_WRITES], value;
 static uint16_t words[SPOREDRIFT_PICTURE];
 static size_t block_len = sizeof block, screen_len = sizeof screen, command_len = sizeof command, sent_len, words_len = SPOREDRIFT_PICTURE;
 static size_t writes_len = sizeof writes, x, y;
+static uint8_t text[2 * SPOREDRIFT_LINE + 4], line[SPOREDRIFT_LINE];
+static const uint8_t *lent = writes;
+static size_t lent_len, text_len, line_len = sizeof line;
 static uint32_t answer;
 
 static struct { const char *name; size_t most; } seen[NAMES];
@@ -60,6 +63,7 @@ MEASURED(new, block, block_len)
 MEASURED(post_boot, block, block_len)
 MEASURED(check, block, block_len)
 MEASURED(write_joypad, block, block_len, value, command, command_len)
+MEASURED(play, block, block_len, lent, lent_len, command, command_len)
 MEASURED(update_screen, block, block_len, screen, screen_len)
 MEASURED(mask_mode, block, block_len)
 MEASURED(backdrop, block, block_len)
@@ -73,6 +77,8 @@ MEASURED(displayed_screen, block + SPOREDRIFT_LIVE_AT, screen_len, block + SPORE
 MEASURED(tile, block + SPOREDRIFT_TILES_AT, x, y)
 MEASURED(encode, sent, sent_len, writes, writes_len)
 MEASURED(verdict, sent, sent_len)
+MEASURED(parse_line, text, text_len, line, line_len)
+MEASURED(version, )
 
 static void call_deep(void) {
     volatile uint8_t bytes[DEEP];
@@ -133,6 +139,49 @@ static void send(void) {
     if (packets * SPOREDRIFT_PACKET != sent_len || memcmp(command, sent, sent_len)) die("a command is not told");
 }
 
+/* Writes in a row, each call up to the next command. Gives the packets of the last. */
+static uint32_t play(const uint8_t *row, size_t n) {
+    uint32_t packets = 0;
+    lent = row, lent_len = n;
+    do {
+        measure_play();
+        if (sporedrift_refusal(answer)) die("writes in a row are refused");
+        lent += sporedrift_taken(answer), lent_len -= sporedrift_taken(answer);
+        if (sporedrift_packets(answer)) packets = sporedrift_packets(answer);
+    } while (lent_len > 0);
+    return packets;
+}
+
+/* The command that `send` sent, in a row. */
+static void send_in_a_row(void) {
+    uint32_t n = sporedrift_value(sporedrift_encode(sent, sent_len, writes, writes_len));
+    memset(command, 0, sizeof command);
+    if (play(writes, n) * SPOREDRIFT_PACKET != sent_len || memcmp(command, sent, sent_len)) die("a command in a row is not told");
+}
+
+/* Random writes in a row, after which the block is what it was before them. */
+static void noise_in_a_row(void) {
+    static uint8_t kept[sizeof block], row[SPOREDRIFT_LINE];
+    memcpy(kept, block, sizeof block);
+    noise(row, sizeof row);
+    play(row, sizeof row);
+    play(row, 0);
+    memcpy(block, kept, sizeof block);
+}
+
+/* Lines of a log: both kinds at their longest, and lines that are refused at their first and at their last character. */
+static void every_line(void) {
+    static const size_t lengths[] = {sizeof text, sizeof text - 1, sizeof text - 2, sizeof text - 3, sizeof text - 4, 6, 5, 4, 3, 2, 1, 0};
+    for (int kind = 0; kind < 4; kind++)
+        for (size_t k = 0; k < sizeof lengths / sizeof *lengths; k++) {
+            text_len = lengths[k];
+            for (size_t i = 0; i < sizeof text; i++) text[i] = (uint8_t)"0123456789abcdefABCDEF"[byte() % 22];
+            text[0] = '0', text[1] = (uint8_t)('0' + kind);
+            measure_parse_line();
+            if (text_len) text[text_len - 1] = 'g', measure_parse_line();
+        }
+}
+
 /* Three screens, of which the last lands what is pending. */
 static void show(int kind) {
     for (int i = 0; i < 3; i++) {
@@ -151,7 +200,9 @@ static void every_command(void) {
             sent[0] = (uint8_t)(code << 3 | packets);
             sent_len = SPOREDRIFT_PACKET * (code >= 30 ? 1 : packets);
             send();
+            send_in_a_row();
         }
+        noise_in_a_row();
         show(-1);
     }
 }
@@ -162,6 +213,7 @@ static void one(int code, int d1) {
     sent[0] = (uint8_t)(code << 3 | 1), sent[1] = (uint8_t)d1;
     sent_len = SPOREDRIFT_PACKET;
     send();
+    send_in_a_row();
 }
 
 static void every_landing_and_mask(void) {
@@ -177,15 +229,18 @@ static void every_landing_and_mask(void) {
 }
 
 static void every_refusal(void) {
-    block_len = 1, look(), measure_write_joypad(), measure_update_screen(), measure_new(), measure_post_boot(), block_len = sizeof block;
+    lent = writes, lent_len = sizeof writes;
+    block_len = 1, look(), measure_write_joypad(), measure_play(), measure_update_screen(), measure_new(), measure_post_boot();
+    block_len = sizeof block;
     screen_len = 1, measure_update_screen(), screen_len = sizeof screen;
-    command_len = 1, measure_write_joypad(), command_len = sizeof command;
+    command_len = 1, measure_write_joypad(), measure_play(), command_len = sizeof command;
+    line_len = 1, measure_parse_line(), line_len = sizeof line;
     words_len = 1, look(), words_len = SPOREDRIFT_PICTURE;
     sent_len = 1, measure_encode(), measure_verdict(), sent_len = SPOREDRIFT_PACKET;
     writes_len = 1, measure_encode(), writes_len = sizeof writes;
     for (size_t i = 0; i < 16; i++) { /* a byte that no valid block has, in each of the first 16 */
         uint8_t was = block[i];
-        block[i] = 0xFF, look(), measure_write_joypad(), measure_update_screen(), block[i] = was;
+        block[i] = 0xFF, look(), measure_write_joypad(), measure_play(), measure_update_screen(), block[i] = was;
     }
 }
 
@@ -197,6 +252,8 @@ int main(void) {
         measure_post_boot(), look();
         every_command();
         every_landing_and_mask();
+        every_line();
+        measure_version();
         every_refusal();
     }
     if (sporedrift_check(block, sizeof block)) die("the block is not valid at the end");

@@ -1,22 +1,26 @@
 # To be sourced, in the repository's root: what crates.txt says of a crate, whether a file is up to date, and where the kit stands.
-# The functions set found, todo, next, crate and made.
+# up_to_date sets made.
 
 # Whether crates.txt lists a crate, and what it says that the crate uses.
 listed() { sed 's/#.*//' crates.txt | grep -q "^[[:blank:]]*$1[[:blank:]]*:"; }
 uses() { sed 's/#.*//' crates.txt | sed -n "s/^[[:blank:]]*$1[[:blank:]]*://p"; }
 
-# Every crate of the repository that NAME reaches, itself left out.
+# Every crate of the repository that NAME reaches, itself left out. In one process: every command of bin/ asks this.
 reached() { # NAME
-    found='' todo=$(uses "$1")
-    while [ -n "$todo" ]; do
-        next=''
-        for crate in $todo; do
-            case " $found " in *" $crate "*) continue ;; esac
-            if listed "$crate"; then found="$found $crate" next="$next $(uses "$crate")"; fi
-        done
-        todo=$next
-    done
-    echo "$found"
+    awk -v name="$1" '
+        { sub(/#.*/, "") }
+        /:/ { split($0, part, ":"); gsub(/[ \t]/, "", part[1]); uses[part[1]] = part[2] }
+        END {
+            n = split(uses[name], todo, " ")
+            for (i = 1; i <= n; i++) {
+                if (todo[i] in found || !(todo[i] in uses)) continue
+                found[todo[i]] = 1
+                printf " %s", todo[i]
+                m = split(uses[todo[i]], more, " ")
+                for (j = 1; j <= m; j++) todo[++n] = more[j]
+            }
+            print ""
+        }' crates.txt
 }
 
 # Whether FILE is there and nothing of these files and folders is newer.

@@ -80,6 +80,7 @@ def fixed(t, p, few=False):
         if first:
             t.same(f"plate: {name}", p.plate(log), first.group())
     every_command(t, p)
+    paper(t, p)
     t.same("plate: nothing", p.plate(b""), BLANK)
     t.same("plate: black behind the preset", p.plate(b"01" + hexed(pulses(MASK_BLACK))), masked())
 
@@ -91,6 +92,19 @@ def every_command(t, p):
     due = b"".join(hexed(command) + b"\n" for first, command in enumerate(sent) if first >= 0xF0 or first & 7)
     ended = p.replay(b"\n".join(hexed(b"\x01" + pulses(command)) for command in sent))
     t.check("replay: every code with every count", ended.status == 0 and ended.out[:-27] == due, ended.show)
+
+
+def paper(t, p):
+    """The worked log of docs/LOG.md, and what the paper says that replay prints and bin/replay says of it."""
+    with open(os.path.join(p.root, "docs", "LOG.md"), "rb") as file:
+        parts = dict(re.findall(rb"(?ms)^```(\w+)\n(.*?)^```$", file.read()))
+    t.check("docs/LOG.md has a log, an answer and what is said", set(parts) == {b"log", b"replay", b"said"} and len(parts[b"log"]) > 500)
+    log, answer, said = (parts.get(kind, b"") for kind in (b"log", b"replay", b"said"))
+    t.same("docs/LOG.md: replay", p.replay(log), answer)
+    ended = p.bin("replay", stdin=log)
+    t.check("docs/LOG.md: bin/replay", ended.out == answer and ended.said == said and ended.status == 0, ended.show)
+    first = re.search(rb"(?m)^line \d+: 7\n", answer)
+    t.same("docs/LOG.md: plate", p.plate(log), first.group() if first else b"")
 
 
 def masked():
@@ -122,7 +136,7 @@ def pictures(t, p, log, stored):
     with tempfile.TemporaryDirectory() as folder:
         names = [os.path.join(folder, name) for name in ("dusk.ppm", "dusk.png")]
         for name in names:
-            drawn = p.draw(os.path.join(p.root, "samples", "dusk.log"), name)
+            drawn = p.bin("draw", os.path.join(p.root, "samples", "dusk.log"), name)
             t.check(f"bin/draw: {os.path.basename(name)}", drawn.status == 0 and os.path.exists(name), drawn.show)
         pixmap, png = (open(name, "rb").read() if os.path.exists(name) else b"" for name in names)
     t.check("bin/draw: a pixmap of its size", pixmap.startswith(b"P6\n256 224\n255\n") and len(pixmap) == 15 + 3 * 57344)

@@ -3,7 +3,8 @@ and the words that the commands in bin/ say. Each run is under a time limit, so 
 
 import fcntl
 import os
-import subprocess
+import shutil
+import sys
 import tempfile
 import threading
 
@@ -65,7 +66,7 @@ def writing(t, p, few=False):
         refuses(t, p, "output is closed", name, whole, stdin=log, stdout="closed")
         with_descriptor(lambda fd: refuses(t, p, "output is full", name, whole, stdin=log, stdout=fd), "/dev/full", os.O_WRONLY)
         with_descriptor(lambda fd: refuses(t, p, "output is for reading", name, whole, stdin=log, stdout=fd), os.devnull, os.O_RDONLY)
-        for most in (0, 1, 100, len(whole) // 2, len(whole) - 27, len(whole) - 2, len(whole) - 1):
+        for most in (1, len(whole) - 1) if few else (0, 1, 100, len(whole) // 2, len(whole) - 27, len(whole) - 2, len(whole) - 1):
             # the limit is on every file, so with room for nothing the program's own word has none either: bin/ takes it by a pipe
             for via in (p.run, p.bin) if most else (p.bin,):
                 ended = via(name, stdin=log, settings=[f"room{most}"])
@@ -155,39 +156,88 @@ def bounded(t, what, base, ended):
     t.note(f"{what}: {told}")
 
 
-def words(t, p, few=False):
-    """What the commands in bin/ say to one who calls them wrongly, and that a picture is drawn whole or not at all."""
-    bin = lambda name: os.path.join(p.root, "bin", name)
+def words(t, p, few=False, parts=("wrongly", "asked", "named")):
+    """What the commands in bin/ say to one who calls them wrongly, or asks what they do. One failure is one message, by the command's name.
+    parts: these functions alone."""
+    for part in (wrongly, asked, named):
+        if part.__name__ in parts:
+            part(t, p)
+
+
+def wrongly(t, p):
     with tempfile.TemporaryDirectory() as folder:
         log, picture = os.path.join(folder, "a.log"), os.path.join(folder, "a.ppm")
         for what, text, said in (
             ("no argument", None, b"no log given"),
             ("no such log", None, b"no log that can be read"),
-            ("a refused line", b"01\n01\n01 \n01\n", b"line 3 of the log is refused"),
-            ("an empty line", b"\n", b"line 1 of the log is refused"),
+            ("a refused line", b"01\n01\n01 \n01\n", b"no picture: line 3 of "),
+            ("an empty line", b"\n", b"no picture: line 1 of "),
         ):
             if text:
                 with open(log, "wb") as file:
                     file.write(text)
-            ended = p.call([bin("draw")] + ([] if what == "no argument" else [log, picture]))
-            t.check(f"bin/draw: {what}", ended.status not in (0, None) and said in ended.said, ended.show)
+            ended = p.bin("draw", *([] if what == "no argument" else [log, picture]))
+            status = 1 if text else 2
+            t.check(f"bin/draw: {what}", one_message("draw", ended, status, said), ended.show)
             left = sorted(set(os.listdir(folder)) - {"a.log"})
             t.check(f"bin/draw: {what}: no file is left", not left, lambda: str(left))
-        with open(picture, "wb") as file:
-            file.write(b"kept")
-        p.call([bin("draw"), log, picture])
-        t.check("bin/draw: a refused line: an older picture stays", open(picture, "rb").read() == b"kept")
+    bare = ("bash", "env", "dirname", "readlink", "uname")
     for name in ("replay", "plate"):
-        ended = p.call([bin(name), "one", "two"])
-        t.check(f"bin/{name}: too many words", ended.status == 2 and b"usage" in ended.said, ended.show)
-        ended = p.call([bin(name)], env={"PATH": only("bash", "env", "dirname", "readlink", "uname"), "REPLAY": "", "PLATE": ""})
-        t.check(f"bin/{name}: no rt on the path", ended.status == 2 and b"no rt on the path" in ended.said, ended.show)
+        ended = p.bin(name, "one", "two")
+        t.check(f"bin/{name}: too many words", one_message(name, ended, 2, b"usage: bin/"), ended.show)
+        ended = p.bin(name, env={"PATH": only(*bare, "python3"), "REPLAY": "", "PLATE": ""})
+        t.check(f"bin/{name}: no rt on the path", one_message(name, ended, 2, b"no rt on the path"), ended.show)
+        ended = p.bin(name, env={"PATH": only(*bare)})
+        t.check(f"bin/{name}: no python3 on the path", one_message(name, ended, 2, b"no python3 on the path"), ended.show)
     for what, text in (("half a plate", answers.BLANK[:-1025]), ("a word lost", answers.BLANK[4:]), ("no plate", b"\x89PNG"), ("nothing", b"")):
-        ended = p.call([bin("ppm")], stdin=text)
-        t.check(f"bin/ppm: {what}", ended.status == 1 and b"no plate" in ended.said and not ended.out, ended.show)
+        ended = p.bin("ppm", stdin=text)
+        t.check(f"bin/ppm: {what}", one_message("ppm", ended, 1, b"no plate"), ended.show)
+    ended = p.bin("ppm", stdin=b"line 3: 7\n")
+    t.check("bin/ppm: a refusal", one_message("ppm", ended, 1, b"it is a refusal, line 3: 7"), ended.show)
     with open("/dev/full", "wb") as full:
-        ended = p.call([bin("ppm")], stdin=answers.BLANK, stdout=full)
-        t.check("bin/ppm: output is full", ended.status == 1 and b"write: " in ended.said, ended.show)
+        ended = p.bin("ppm", stdin=answers.BLANK, stdout=full)
+        t.check("bin/ppm: output is full", one_message("ppm", ended, 1, b"write: No space left"), ended.show)
+
+
+def one_message(name, ended, status, *parts):
+    """Ended with this status, no output, and one line from this command that has these parts."""
+    one = ended.said.startswith(name.encode() + b": ") and ended.said.count(b"\n") == 1
+    return ended.status == status and one and all(part in ended.said for part in parts) and not ended.out
+
+
+def asked(t, p):
+    """--help and --version, and options that are none."""
+    with open(os.path.join(p.root, "VERSION"), "rb") as file:
+        version = file.read()
+    for name in ("draw", "plate", "ppm", "replay"):
+        ended = p.bin(name, "--version")
+        t.same(f"bin/{name}: --version", ended, name.encode() + b" (Sporedrift) " + version)
+        ended = p.bin(name, "--help")
+        told = all(word in ended.out for word in (b"usage: bin/" + name.encode(), b"--help", b"--version", b"Exit status: 0"))
+        t.check(f"bin/{name}: --help", ended.status == 0 and told and not ended.said, ended.show)
+        ended = p.bin(name, "--hepl")
+        t.check(f"bin/{name}: no such option", one_message(name, ended, 2, b"no option --hepl"), ended.show)
+    with open("/dev/full", "wb") as full:
+        ended = p.bin("replay", "--help", stdout=full)
+        t.check("bin/replay: --help, output is full", one_message("replay", ended, 1, b"write: "), ended.show)
+
+
+def named(t, p):
+    """- for standard input, -- before a name, and names that begin with -."""
+    log = b"01003020\n"
+    for name, given in (("replay", log), ("plate", log), ("ppm", answers.BLANK)):
+        due = p.run(name, given).out if name != "ppm" else p.bin("ppm", "--ppm", stdin=given).out
+        with tempfile.TemporaryDirectory() as folder:
+            with open(os.path.join(folder, "-x"), "wb") as file:
+                file.write(given)
+            for words in (("-",), ("--", "-")):
+                t.same(f"bin/{name}: {' '.join(words)} is standard input", p.bin(name, *words, stdin=given), due)
+            for words in (("--", "-x"), ("./-x",)):
+                t.same(f"bin/{name}: {' '.join(words)} is a file", p.bin(name, *words, cwd=folder), due)
+            ended = p.bin(name, "-x", cwd=folder)
+            t.check(f"bin/{name}: -x is no option", one_message(name, ended, 2, b"no option -x"), ended.show)
+            ended = p.bin(name, folder)
+            t.check(f"bin/{name}: a folder", one_message(name, ended, 2, b"is a folder"), ended.show)
 
 
 FOLDERS = []
@@ -198,6 +248,6 @@ def only(*names):
     folder = tempfile.TemporaryDirectory()
     FOLDERS.append(folder)
     for name in names:
-        found = subprocess.run(["sh", "-c", f"command -v {name}"], stdout=subprocess.PIPE, text=True).stdout.strip()
+        found = sys.executable if name == "python3" else shutil.which(name)
         os.symlink(os.path.realpath(found), os.path.join(folder.name, name))
     return folder.name

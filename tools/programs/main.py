@@ -4,6 +4,7 @@ import argparse
 import os
 import subprocess
 import sys
+import threading
 import time
 from concurrent.futures import ThreadPoolExecutor
 
@@ -13,6 +14,7 @@ ROOT = os.path.dirname(os.path.dirname(HERE))
 sys.path.insert(0, HERE)
 
 import answers
+import commands
 import failures
 from process import Runner, brief
 
@@ -26,6 +28,9 @@ SUITES = {
     "writing": failures.writing,
     "memory": failures.memory,
     "words": failures.words,
+    "drawing": commands.drawing,
+    "reasons": commands.reasons,
+    "building": commands.building,
 }
 # Each fault of wrong.py, by program and suite, on which the suite must fail: a test that can't fail tells nothing.
 FAULTS = {
@@ -47,6 +52,29 @@ FAULTS = {
     ("replay", "memory"): "nothing",
     ("plate", "memory"): "nothing",
     ("plate", "words"): "no-refusals",
+    ("replay", "reasons of_lines"): "from-0",
+    ("replay", "reasons agreement"): "blanks",
+    ("plate", "reasons of_plates"): "goes-on",
+    ("plate", "drawing failing"): "no-refusals",
+}
+
+
+# Likewise each fault of careless.py, by the command of bin/ that has it, and by the part of a suite that is about it.
+CARELESS = {
+    ("draw", "drawing devices"): "replaces",
+    ("draw", "drawing pipes"): "replaces",
+    ("draw", "drawing links"): "replaces truncates",
+    ("draw", "drawing folders"): "fills-folders",
+    ("draw", "drawing older"): "mode-lost part-left",
+    ("draw", "drawing endings"): "any-ending small-png",
+    ("draw", "drawing descriptors"): "chatty",
+    ("draw", "drawing names"): "no-dashes",
+    ("draw", "drawing failing"): "truncates two-words",
+    ("replay", "reasons of_lines"): "column one-way",
+    ("plate", "reasons of_plates"): "silent no-status",
+    ("replay", "reasons many"): "more-lost",
+    ("replay", "words named"): "no-dash no-dashes",
+    ("replay", "words wrongly"): "no-status",
 }
 
 
@@ -64,8 +92,13 @@ class Report:
         self.passed = self.failed = 0
         self.fault = fault
         self.notes = []
+        self.lock = threading.Lock()
 
     def check(self, name, holds, show=lambda: ""):
+        with self.lock:
+            self.count(name, holds, show)
+
+    def count(self, name, holds, show):
         if holds:
             self.passed += 1
             return
@@ -92,9 +125,9 @@ class Report:
 class Programs:
     """The two programs, alone and by bin/, and the Rust driven by the same log."""
 
-    def __init__(self, options, words, env=None, limit=None):
+    def __init__(self, options, words, env=None, limit=None, commands=None):
         self.root, self.seed, self.scale = ROOT, options.seed, options.scale
-        self.words, self.env = words, env
+        self.words, self.env, self.commands = words, env, commands or {}
         self.oracle = os.path.join(ROOT, "target", "oracle", "log") if options.oracle else None
         self.emulated = any("qemu" in word for word in words["replay"])
         self.runner = Runner(limit or (200 if self.emulated else 30))
@@ -110,14 +143,12 @@ class Programs:
     def plate(self, log):
         return self.run("plate", log)
 
-    def bin(self, name, *arguments, **how):
-        return self.call([os.path.join(ROOT, "bin", name), *arguments], **how)
+    def command(self, name):
+        """The words that run a command of bin/, or what stands in for it."""
+        return self.commands.get(name) or [os.path.join(ROOT, "bin", name)]
 
-    def draw(self, log, picture):
-        return self.call([os.path.join(ROOT, "bin", "draw"), log, picture])
-
-    def call(self, words, env=None, **how):
-        return self.runner.run(words, env={**(self.env or {}), **(env or {})}, **how)
+    def bin(self, name, *arguments, env=None, **how):
+        return self.runner.run([*self.command(name), *arguments], env={**(self.env or {}), **(env or {})}, **how)
 
     def told(self, name, log):
         """What the Rust prints; where it is not at hand, the program on the same log read at once."""
@@ -152,33 +183,44 @@ def words_of(name):
 
 
 def faults(t, o, words):
-    """Each fault, in the place of its program beside the other as it is, makes its suite fail."""
+    """Each fault, in the place of its program or command beside the others as they are, makes its suite fail."""
+
+    def stand_in(script, fault, line):
+        return [sys.executable, "-IS", os.path.join(HERE, script), fault, *line]
+
+    def program(name, fault):
+        wrong = {**words, name: stand_in("wrong.py", fault, words[name])}
+        env = {name.upper(): " ".join(line) for name, line in wrong.items()}
+        return Programs(o, wrong, env, limit=3 if fault == "spins" else None)
+
+    def command(name, fault):
+        return Programs(o, words, commands={name: stand_in("careless.py", fault, [os.path.join(ROOT, "bin", name)])})
 
     def seen(place):
-        fault, program, suite = place
-        wrong = {**words, program: [sys.executable, "-IS", os.path.join(HERE, "wrong.py"), fault, *words[program]]}
-        env = {name.upper(): " ".join(line) for name, line in wrong.items()}
-        programs = Programs(o, wrong, env, limit=3 if fault == "spins" else None)
+        make, name, (suite, *parts), fault = place
         started = time.monotonic()
         try:
-            SUITES[suite](Report(fault=program), programs, few=True)
+            SUITES[suite](Report(fault=name), make(name, fault), few=True, **({"parts": parts} if parts else {}))
         except Seen as case:
             return place, f"seen by {case}, {time.monotonic() - started:.1f} s"
         return place, None
 
-    places = [(fault, program, suite) for (program, suite), names in FAULTS.items() for fault in names.split()]
-    owed = [place for place in places if o.oracle or place[2] not in ("chance", "short")]
+    places = [(program, name, suite.split(), fault) for (name, suite), names in FAULTS.items() for fault in names.split()]
+    places += [(command, name, suite.split(), fault) for (name, suite), names in CARELESS.items() for fault in names.split()]
+    owed = [place for place in places if o.oracle or place[2][0] not in ("chance", "short")]
     if len(owed) < len(places):
         t.left_out("faults that only the Rust's answers show: it is not at hand")
     with ThreadPoolExecutor(os.cpu_count()) as pool:
-        for (fault, program, suite), case in pool.map(seen, owed):
-            t.check(f"the fault {fault} of {program} is not seen by {suite}", case is not None)
+        for (_, name, suite, fault), case in pool.map(seen, owed):
+            t.check(f"the fault {fault} of {name} is not seen by {' '.join(suite)}", case is not None)
             if case and o.verbose:
-                t.note(f"{fault} of {program} in {suite}: {case}")
+                t.note(f"{fault} of {name} in {' '.join(suite)}: {case}")
 
 
 def main():
     o = options()
+    # the commands run by the python that runs this, and not by way of a manager of versions, which takes its time
+    os.environ["PATH"] = os.pathsep.join((os.path.dirname(sys.executable), os.environ["PATH"]))
     words = {name: words_of(name) for name in ("replay", "plate")}
     programs = Programs(o, words)
     passed = failed = 0

@@ -46,9 +46,9 @@ class Runner:
     def __init__(self, limit):
         self.limit = limit
 
-    def run(self, words, stdin=b"", stdout=None, settings=(), env=None, limit=None):
+    def run(self, words, stdin=b"", stdout=None, settings=(), env=None, limit=None, **how):
         """stdin: bytes, a descriptor, or None for a closed one. stdout: None for a file whose contents are told, a descriptor, or
-        "closed". settings: those of launch.py."""
+        "closed". settings: those of launch.py. how: what subprocess takes besides, as cwd."""
         settings = [*settings, *["close0"] * (stdin is None), *["close1"] * (stdout == "closed")]
         if settings:
             words = [sys.executable, "-IS", LAUNCH, ",".join(settings), *words]
@@ -63,6 +63,7 @@ class Runner:
                 stderr=said,
                 env={**os.environ, **(env or {})},
                 start_new_session=True,
+                **how,
             )
             status = self.wait(child, limit or self.limit)
             wrote.seek(0)

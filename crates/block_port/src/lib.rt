@@ -1,5 +1,5 @@
 // The port's bytes of the block: the receiver, the two lines and the joypad index out of them and back, and a complete command from the
-// packet store into the caller's buffer. RULES 1.2, 1.3 and 3. The meaning is in specs/Bytes.
+// packet store into the caller's buffer. RULES 1.4, 1.5 and 3. The meaning is in specs/Bytes.
 ghost use mathlib.Core.Path.{_≡_};
 ghost use Prim.Native.Nat.{_≤_, _<_};
 ghost use lib.ListN.{length};

@@ -1,6 +1,8 @@
 //! Every refusal of every call over slices: the lowest number wins, and no lent byte changes.
 
-use sporedrift::{BLOCK, COMMAND, PICTURE, Refusal, SCREEN, TILE, Unit, WIDTH, calls};
+use sporedrift::{
+    BLOCK, COMMAND, LINE, PICTURE, Refusal, Rgb555, SCREEN, TILE, Unit, WIDTH, calls,
+};
 
 fn blocks() -> [(Vec<u8>, Result<(), Refusal>); 4] {
     let valid = Unit::post_boot().as_bytes().to_vec();
@@ -10,9 +12,9 @@ fn blocks() -> [(Vec<u8>, Result<(), Refusal>); 4] {
     longer.push(0);
     [
         (valid, Ok(())),
-        (broken, Err(Refusal(2))),
-        (longer, Err(Refusal(1))),
-        (vec![], Err(Refusal(1))),
+        (broken, Err(Refusal::Block)),
+        (longer, Err(Refusal::Length)),
+        (vec![], Err(Refusal::Length)),
     ]
 }
 
@@ -20,12 +22,12 @@ fn blocks() -> [(Vec<u8>, Result<(), Refusal>); 4] {
 fn due<T: PartialEq + std::fmt::Debug>(
     told: Result<T, Refusal>,
     block: Result<(), Refusal>,
-    then: &[(bool, u8)],
+    then: &[(bool, Refusal)],
 ) {
     let own = then
         .iter()
         .find(|(holds, _)| *holds)
-        .map(|(_, number)| Refusal(*number));
+        .map(|(_, refusal)| *refusal);
     match block.err().or(own) {
         Some(refusal) => assert_eq!(told, Err(refusal)),
         None => assert!(told.is_ok(), "{told:?}"),
@@ -49,7 +51,7 @@ fn blocks_are_checked_first() {
             due(
                 calls::color_at(&block, x, y, shade),
                 no,
-                &[(x >= 160 || y >= 144 || shade > 3, 4)],
+                &[(x >= 160 || y >= 144 || shade > 3, Refusal::Place)],
             );
         }
         for (x, y) in [
@@ -65,12 +67,12 @@ fn blocks_are_checked_first() {
             due(
                 calls::map_entry(&block, x, y),
                 no,
-                &[(x >= 32 || y >= 28, 4)],
+                &[(x >= 32 || y >= 28, Refusal::Place)],
             );
             due(
                 calls::border_color_at(&block, x, y),
                 no,
-                &[(x >= 256 || y >= 224, 4)],
+                &[(x >= 256 || y >= 224, Refusal::Place)],
             );
         }
     }
@@ -87,18 +89,22 @@ fn outputs_keep_what_is_not_answered() {
             (224, 0),
             (0, 0),
         ] {
-            let mut out = vec![0xA5C3; room];
+            let mut out = vec![Rgb555(0xA5C3); room];
             let told = calls::row(&block, y, &mut out);
-            due(told, no, &[(y >= 224, 4), (room < WIDTH, 6)]);
+            due(
+                told,
+                no,
+                &[(y >= 224, Refusal::Place), (room < WIDTH, Refusal::Output)],
+            );
             let kept = if told.is_ok() { WIDTH } else { 0 };
-            assert!(out[kept..].iter().all(|word| *word == 0xA5C3));
+            assert!(out[kept..].iter().all(|word| *word == Rgb555(0xA5C3)));
         }
         for room in [PICTURE, PICTURE + 1, PICTURE - 1, 0] {
-            let mut out = vec![0xA5C3; room];
+            let mut out = vec![Rgb555(0xA5C3); room];
             let told = calls::picture(&block, &mut out);
-            due(told, no, &[(room < PICTURE, 6)]);
+            due(told, no, &[(room < PICTURE, Refusal::Output)]);
             let kept = if told.is_ok() { PICTURE } else { 0 };
-            assert!(out[kept..].iter().all(|word| *word == 0xA5C3));
+            assert!(out[kept..].iter().all(|word| *word == Rgb555(0xA5C3)));
         }
     }
 }
@@ -109,14 +115,19 @@ fn refused_writes_and_screens_change_nothing() {
         for room in [COMMAND, COMMAND + 1, COMMAND - 1, 0] {
             let (mut after, mut command) = (block.clone(), vec![0x5A; room]);
             let told = calls::write_joypad(&mut after, 0x00, &mut command);
-            due(told, no, &[(room < COMMAND, 6)]);
+            due(told, no, &[(room < COMMAND, Refusal::Output)]);
             assert_eq!(after == block, told.is_err());
             assert!(command.iter().all(|byte| *byte == 0x5A));
+            let mut played = block.clone();
+            let told = calls::play(&mut played, &[0x00], &mut command);
+            due(told, no, &[(room < COMMAND, Refusal::Output)]);
+            assert_eq!(played, after);
+            assert!(told.is_err() || told == Ok((1, 0)));
         }
         for len in [SCREEN, SCREEN - 1, SCREEN + 1, 0] {
             let mut after = block.clone();
             let told = calls::update_screen(&mut after, &vec![0x1B; len]);
-            due(told, no, &[(len != SCREEN, 3)]);
+            due(told, no, &[(len != SCREEN, Refusal::Screen)]);
             assert_eq!(after == block, told.is_err());
         }
     }
@@ -133,7 +144,7 @@ fn fresh_blocks_ask_for_the_length_alone() {
                 if len == BLOCK {
                     Ok(())
                 } else {
-                    Err(Refusal(1))
+                    Err(Refusal::Length)
                 }
             );
             assert_eq!(calls::check(&block), told);
@@ -144,11 +155,11 @@ fn fresh_blocks_ask_for_the_length_alone() {
 
 #[test]
 fn commands_of_another_length_are_refused() {
-    let cases: [(&[u8], usize, Option<u8>); 6] = [
-        (&[], 0, Some(5)),
-        (&[0x01; 15], 0, Some(5)),
-        (&[0x08; 16], 2000, Some(5)),
-        (&[0x02; 32], 519, Some(6)),
+    let cases: [(&[u8], usize, Option<Refusal>); 6] = [
+        (&[], 0, Some(Refusal::Command)),
+        (&[0x01; 15], 0, Some(Refusal::Command)),
+        (&[0x08; 16], 2000, Some(Refusal::Command)),
+        (&[0x02; 32], 519, Some(Refusal::Output)),
         (&[0x02; 32], 520, None),
         (&[0xF0; 16], 261, None),
     ];
@@ -156,12 +167,12 @@ fn commands_of_another_length_are_refused() {
         let mut out = vec![0x77; room];
         let told = calls::encode(command, &mut out);
         let writes = command.len() / 16 * 260;
-        assert_eq!(
-            told,
-            refusal.map_or(Ok(writes), |number| Err(Refusal(number)))
-        );
+        assert_eq!(told, refusal.map_or(Ok(writes), Err));
         assert!(out[told.unwrap_or(0)..].iter().all(|byte| *byte == 0x77));
-        assert_eq!(calls::verdict(command).is_err(), refusal == Some(5));
+        assert_eq!(
+            calls::verdict(command).is_err(),
+            refusal == Some(Refusal::Command)
+        );
     }
 }
 
@@ -186,4 +197,74 @@ fn parts_are_parts_of_what_is_lent() {
         assert!(calls::tile(&tiles, n).is_empty());
     }
     assert!(calls::tile(&tiles[1..], 0).is_empty());
+}
+
+#[test]
+fn lines_that_are_none_change_nothing() {
+    let screen = b"02".repeat(SCREEN + 1);
+    let most = b"01".repeat(LINE + 1);
+    let cases: [(&[u8], Result<usize, Refusal>); 14] = [
+        (b"01", Ok(0)),
+        (b"0130aAfF", Ok(3)),
+        (&screen, Ok(SCREEN)),
+        (&most, Ok(LINE)),
+        (b"", Err(Refusal::Line)),
+        (b"0", Err(Refusal::Line)),
+        (b"00", Err(Refusal::Line)),
+        (b"03", Err(Refusal::Line)),
+        (b"013", Err(Refusal::Line)),
+        (b"0130\r", Err(Refusal::Line)),
+        (b"01 30", Err(Refusal::Line)),
+        (b"0130\n", Err(Refusal::Line)),
+        (&screen[2..], Err(Refusal::Line)),
+        (b"0230", Err(Refusal::Line)),
+    ];
+    for (text, due) in cases {
+        for room in [LINE, LINE + 1] {
+            let mut bytes = vec![0x77; room];
+            let told = calls::parse_line(text, &mut bytes).map(|(_, len)| len);
+            assert_eq!(told, due, "{:?}", String::from_utf8_lossy(text));
+            let kept = due.unwrap_or(0);
+            assert!(bytes[kept..].iter().all(|byte| *byte == 0x77));
+        }
+        let mut short = vec![0x77; LINE - 1];
+        assert_eq!(calls::parse_line(text, &mut short), Err(Refusal::Output));
+        assert!(short.iter().all(|byte| *byte == 0x77));
+    }
+    for other in *b"\r \t\0\n/:@G`g\xB1" {
+        for text in [[b'0', b'1', other, b'0'], [b'0', b'1', b'0', other]] {
+            assert_eq!(calls::parse_line(&text, &mut [0; LINE]), Err(Refusal::Line));
+        }
+    }
+    let longer = b"01".repeat(LINE + 2);
+    assert_eq!(
+        calls::parse_line(&longer, &mut [0; LINE]),
+        Err(Refusal::Line)
+    );
+}
+
+#[test]
+fn numbers_and_words() {
+    let all = [
+        Refusal::Length,
+        Refusal::Block,
+        Refusal::Screen,
+        Refusal::Place,
+        Refusal::Command,
+        Refusal::Output,
+        Refusal::Line,
+    ];
+    for (refusal, number) in all.into_iter().zip(1..) {
+        assert_eq!(refusal.number(), number);
+        assert!(
+            refusal
+                .to_string()
+                .ends_with(&format!(" (refusal {number})"))
+        );
+    }
+    let error: Box<dyn std::error::Error> = Refusal::Line.into();
+    assert_eq!(
+        error.to_string(),
+        "the text is no line of a log (refusal 7)"
+    );
 }

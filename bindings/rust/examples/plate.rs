@@ -1,7 +1,7 @@
 //! plate OUT.ppm: what a game sends to the unit, and the picture that comes of it. It prints each answer, and writes the picture.
 //! examples/c/plate.c is the same program over the header: both print examples/plate.stdout.
 
-use sporedrift::{HEIGHT, Landed, PICTURE, Refusal, SCREEN, Unit, WIDTH, calls};
+use sporedrift::{HEIGHT, PICTURE, Refusal, Rgb555, SCREEN, Unit, WIDTH, calls};
 use std::error::Error;
 use std::io::Write;
 
@@ -10,7 +10,7 @@ fn tell(call: &str, answer: Result<Option<u32>, Refusal>) {
     match answer {
         Ok(Some(value)) => println!("{call}: {value:X}"),
         Ok(None) => println!("{call}: none"),
-        Err(Refusal(number)) => println!("{call}: refused {number}"),
+        Err(refusal) => println!("{call}: refused {}", refusal.number()),
     }
 }
 
@@ -19,39 +19,34 @@ fn value<T: Into<u32>>(answer: Result<T, Refusal>) -> Result<Option<u32>, Refusa
 }
 
 /// The command's joypad writes, one by one, as a game makes them. Only the last one completes the command.
-fn send(unit: &mut Unit, name: &str, command: &[u8]) -> Result<(), Refusal> {
+fn send(unit: &mut Unit, name: &str, command: &[u8]) {
     println!("{name}");
     tell("  verdict", value(sporedrift::verdict(command)));
     let writes = sporedrift::encode(command);
     tell(
         "  encode",
-        writes
-            .as_ref()
-            .map(|w| Some(w.len() as u32))
-            .map_err(|no| *no),
+        value(writes.as_ref().map(|w| w.len() as u32).map_err(|no| *no)),
     );
     for write in writes.unwrap_or_default() {
-        if let Some(received) = unit.write_joypad(write)? {
-            tell("  write_joypad", Ok(Some(received.len() as u32 / 16)));
+        if let Some(received) = unit.write_joypad(write) {
+            tell("  write_joypad", Ok(Some(received.packets() as u32)));
             println!(
                 "  as sent: {}",
-                if received == command { "yes" } else { "no" }
+                if received.as_bytes() == command {
+                    "yes"
+                } else {
+                    "no"
+                }
             );
         }
     }
-    Ok(())
 }
 
 fn show(unit: &mut Unit, screen: &[u8]) {
-    let number = |landed| match landed {
-        Landed::Palettes => 0,
-        Landed::AttributeFiles => 1,
-        Landed::BorderTiles { upper_half } => 2 + u32::from(upper_half),
-        Landed::BorderMap => 4,
-    };
+    let landed = unit.update_screen(screen);
     tell(
         "  update_screen",
-        unit.update_screen(screen).map(|landed| landed.map(number)),
+        landed.map(|some| some.map(|transfer| transfer.number().into())),
     );
 }
 
@@ -108,46 +103,52 @@ fn map_page() -> Vec<u8> {
     page
 }
 
-fn look(unit: &Unit) -> Result<Vec<u16>, Refusal> {
+fn word(colour: Rgb555) -> u32 {
+    colour.0.into()
+}
+
+fn look(unit: &Unit) -> Result<Vec<Rgb555>, Refusal> {
     let block = unit.as_bytes();
     println!("look");
     tell("  check", calls::check(block).map(|()| Some(0)));
-    tell("  mask_mode", value(unit.mask_mode()));
-    tell("  backdrop", value(unit.backdrop()));
-    tell("  color_at", value(unit.color_at(80, 72, 2)));
-    tell("  color_at", value(unit.color_at(80, 72, 4)));
-    tell("  map_entry", value(unit.map_entry(31, 27)));
+    tell("  mask_mode", Ok(Some(unit.mask_mode().number().into())));
+    tell("  backdrop", Ok(Some(word(unit.backdrop()))));
+    for shade in [2, 4] {
+        tell("  color_at", value(unit.color_at(80, 72, shade).map(word)));
+    }
     tell(
-        "  border_color_at",
-        unit.border_color_at(3, 2).map(|word| word.map(u32::from)),
+        "  map_entry",
+        value(unit.map_entry(31, 27).map(|entry| entry.0)),
     );
-    tell(
-        "  border_color_at",
-        unit.border_color_at(128, 112)
-            .map(|word| word.map(u32::from)),
-    );
-    let live = unit.displayed_screen()?.as_ptr() == block[8420..].as_ptr();
+    for (x, y) in [(3, 2), (128, 112)] {
+        tell(
+            "  border_color_at",
+            unit.border_color_at(x, y).map(|some| some.map(word)),
+        );
+    }
+    let live = unit.displayed_screen().as_ptr() == block[8420..].as_ptr();
     println!(
         "  displayed_screen: {}",
         if live { "live" } else { "frozen" }
     );
-    println!("  tile: {:02X} {:02X}", unit.tile(5)[0], unit.tile(5)[31]);
+    if let Some(tile) = unit.tile(5) {
+        println!("  tile: {:02X} {:02X}", tile[0], tile[31]);
+    }
     println!(
         "  tile: {}",
-        if unit.tile(256).is_empty() {
+        if unit.tile(256).is_none() {
             "none"
         } else {
             "some"
         }
     );
-    let mut out = vec![0; PICTURE];
+    let mut out = vec![Rgb555(0); PICTURE];
     tell("  row", value(calls::row(block, 100, &mut out[..WIDTH])));
     tell("  row", value(calls::row(block, 224, &mut out[..WIDTH])));
     let row = out[..WIDTH].to_vec();
     tell("  picture", value(calls::picture(block, &mut out[1..])));
     tell("  picture", value(calls::picture(block, &mut out)));
-    let same =
-        row == out[100 * WIDTH..][..WIDTH] && row == unit.row(100)? && out == unit.picture()?;
+    let same = row == out[100 * WIDTH..][..WIDTH] && row == unit.row(100)? && out == unit.picture();
     println!(
         "  row 100 of it: {}",
         if same { "the same" } else { "another" }
@@ -156,11 +157,8 @@ fn look(unit: &Unit) -> Result<Vec<u16>, Refusal> {
 }
 
 /// A Portable Pixmap; the sum (FNV-1a) tells whether another program drew the same.
-fn write_picture(path: &str, picture: &[u16]) -> std::io::Result<()> {
-    let bytes: Vec<u8> = picture
-        .iter()
-        .flat_map(|word| calls::to_rgb8(*word))
-        .collect();
+fn write_picture(path: &str, picture: &[Rgb555]) -> std::io::Result<()> {
+    let bytes: Vec<u8> = picture.iter().flat_map(|word| word.to_rgb8()).collect();
     let sum = bytes.iter().fold(2166136261, |sum: u32, b| {
         (sum ^ u32::from(*b)).wrapping_mul(16777619)
     });
@@ -181,28 +179,28 @@ fn main() -> Result<(), Box<dyn Error>> {
     let pal01 = [
         0x01, 0xDF, 0x7B, 0x1F, 0x02, 0xB0, 0x01, 0x43, 0x10, 0xE0, 0x3A, 0x60, 0x25, 0x84, 0x10, 0,
     ];
-    send(&mut unit, "PAL01", &pal01)?;
+    send(&mut unit, "PAL01", &pal01);
     send(
         &mut unit,
         "ATTR_BLK",
         &[0x21, 0x01, 0x03, 0x05, 4, 3, 15, 14, 0, 0, 0, 0, 0, 0, 0, 0],
-    )?;
+    );
     send(
         &mut unit,
         "a command of two packets, cut",
         &[0x02, 0, 0, 0, 0, 0, 0, 0, 0, 0, 0, 0, 0, 0, 0, 0],
-    )?;
+    );
     send(
         &mut unit,
         "CHR_TRN",
         &[0x99, 0, 0, 0, 0, 0, 0, 0, 0, 0, 0, 0, 0, 0, 0, 0],
-    )?;
+    );
     transfer(&mut unit, &tiles_page());
     send(
         &mut unit,
         "PCT_TRN",
         &[0xA1, 0, 0, 0, 0, 0, 0, 0, 0, 0, 0, 0, 0, 0, 0, 0],
-    )?;
+    );
     transfer(&mut unit, &map_page());
     println!("screen");
     show(&mut unit, &packed(|x, y| ((x / 16 + y / 12) % 4) as u8));

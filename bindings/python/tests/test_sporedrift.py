@@ -1,0 +1,362 @@
+"""The module: the sample's plate, the refusals, writes in a row against writes one by one, lines, pictures, and how the library is found.
+
+    python3 -m unittest discover -s bindings/python/tests
+"""
+
+import copy
+import ctypes.util
+import importlib
+import io
+import os
+import pickle
+import random
+import struct
+import subprocess
+import sys
+import tempfile
+import unittest
+import zlib
+
+HERE = os.path.dirname(os.path.abspath(__file__))
+PACKAGE = os.path.dirname(HERE)
+SAMPLES = os.path.join(PACKAGE, "..", "..", "samples")
+sys.dont_write_bytecode = True
+sys.path.insert(0, PACKAGE)
+
+import sporedrift
+from sporedrift import BorderMapEntry, LineKind, MaskMode, Refusal, Rgb555, Transfer, Unit, encode, parse_line, plate, verdict
+
+try:
+    import PIL
+except ImportError:
+    PIL = None
+
+
+def read(name):
+    with open(os.path.join(SAMPLES, name), "rb") as file:
+        return file.read()
+
+
+def packet(*start):
+    return bytes(start) + bytes(16 - len(start))
+
+
+def pixels(png):
+    """The bytes of the pixels of a PNG whose rows are unfiltered and of 256 pixels; its sums must be right."""
+    at, packed = 8, b""
+    while at < len(png):
+        (length,) = struct.unpack_from(">I", png, at)
+        kind, body = png[at + 4 : at + 8], png[at + 8 : at + 8 + length]
+        if struct.unpack_from(">I", png, at + 8 + length)[0] != zlib.crc32(kind + body):
+            raise ValueError(f"the sum of {kind}")
+        packed += body if kind == b"IDAT" else b""
+        at += 12 + length
+    raw = zlib.decompress(packed)
+    return b"".join(raw[at + 1 : at + 769] for at in range(0, len(raw), 769))
+
+
+class Case(unittest.TestCase):
+    def refused(self, number, call, *words):
+        with self.assertRaises(Refusal) as caught:
+            call(*words)
+        self.assertEqual(caught.exception.number, number)
+        return caught.exception
+
+
+class Sample(Case):
+    def test_plate(self):
+        log, due = read("dusk.log"), read("dusk.plate").decode()
+        path = os.path.join(SAMPLES, "dusk.log")
+        self.assertEqual(plate(path).text(), due)
+        self.assertEqual(plate(log).text(), due)
+        self.assertEqual(plate(memoryview(log)), plate(log))
+        with open(path, "rb") as file:
+            self.assertEqual(plate(file).text(), due)
+        self.assertEqual(plate(log[:-1]).text(), due)
+
+    def test_replay(self):
+        unit, printed = Unit.post_boot(), []
+        for text in read("dusk.log").splitlines():
+            line = parse_line(text)
+            if line.kind is LineKind.WRITES:
+                printed += [command.hex().upper() for command in unit.play_all(line.data)]
+            else:
+                unit.update_screen(line.data)
+        printed.append(unit.block[:13].hex().upper())
+        self.assertEqual(printed, read("dusk.replay").decode().splitlines())
+
+    def test_files(self):
+        picture = plate(read("dusk.log"))
+        self.assertEqual(pixels(picture.png()), pixels(read("dusk.png")))
+        with tempfile.TemporaryDirectory() as folder:
+            for name, due in (("a.ppm", picture.ppm()), ("b.PNG", picture.png())):
+                picture.save(os.path.join(folder, name))
+                with open(os.path.join(folder, name), "rb") as file:
+                    self.assertEqual(file.read(), due)
+            self.assertRaises(ValueError, picture.save, os.path.join(folder, "c.gif"))
+            self.assertEqual(sorted(os.listdir(folder)), ["a.ppm", "b.PNG"])
+
+
+class Units(Case):
+    def test_a_command_comes_back(self):
+        unit = Unit.post_boot()
+        command = packet(0xB9, 0x02)
+        told = [unit.write_joypad(write) for write in encode(command)]
+        self.assertEqual([t for t in told if t is not None], [command])
+        self.assertEqual(unit.block[:13], bytes([2, 0, 0, 1, 1, 0, 0, 0, 0, 1, 0, 0, 0]))
+        self.assertIs(unit.mask_mode, MaskMode.BLACK)
+        self.assertEqual(unit.picture()[128, 112], 0)
+
+    def test_a_transfer_lands_at_the_third_screen(self):
+        unit, screen = Unit.post_boot(), bytes(sporedrift.SCREEN)
+        for code, d1, kind in (
+            (0x0B, 0, Transfer.PALETTES),
+            (0x15, 0, Transfer.ATTRIBUTE_FILES),
+            (0x13, 0, Transfer.LOWER_TILES),
+            (0x13, 1, Transfer.UPPER_TILES),
+            (0x14, 0, Transfer.BORDER_MAP),
+        ):
+            unit.play_all(encode(packet(code << 3 | 1, d1)))
+            self.assertEqual(unit.pending, (3, kind))
+            self.assertEqual([unit.update_screen(screen) for _ in range(4)], [None, None, kind, None])
+            self.assertIsNone(unit.pending)
+
+    def test_saved_and_copied(self):
+        unit = Unit.post_boot()
+        unit.play(encode(packet(0x01, 0xFF, 0x7F))[:100])
+        for again in (Unit.load(bytes(unit)), unit.copy(), copy.copy(unit), copy.deepcopy(unit), pickle.loads(pickle.dumps(unit))):
+            self.assertEqual(again, unit)
+            again.play_all(encode(packet(0x01, 0xFF, 0x7F)))
+            self.assertNotEqual(again, unit)
+            self.assertEqual(again.backdrop, 0x7FFF)
+        self.assertEqual(Unit(), Unit.new())
+        self.assertNotEqual(Unit.new(), Unit.post_boot())
+        self.assertNotEqual(Unit.new(), Unit.new().block)
+
+    def test_frozen(self):
+        unit = Unit.post_boot()
+        unit.update_screen(b"\x1B" * sporedrift.SCREEN)
+        unit.play_all(encode(packet(0xB9, 0x01)))
+        before = unit.picture()
+        unit.update_screen(bytearray(b"\xE4" * sporedrift.SCREEN))
+        self.assertEqual(unit.displayed_screen, b"\x1B" * sporedrift.SCREEN)
+        self.assertEqual(unit.picture(), before)
+        unit.play_all(encode(packet(0xB9, 0x00)))
+        self.assertEqual(unit.displayed_screen, b"\xE4" * sporedrift.SCREEN)
+        self.assertNotEqual(unit.picture(), before)
+
+    def test_pads(self):
+        unit = Unit.post_boot()
+        unit.play_all(encode(packet(0x89, 0x01)))
+        self.assertEqual(unit.joypad_mask, 1)
+        before = unit.joypad_index
+        unit.play_all(b"\x10\x30")
+        self.assertEqual(unit.joypad_index, before ^ 1)
+
+    def test_looks(self):
+        unit = Unit.new()
+        self.assertEqual(unit.backdrop.rgb8, (255, 238, 202))
+        self.assertEqual(Rgb555(0x8000).rgb8, (0, 0, 0))
+        self.assertEqual(unit.color_at(159, 143, 0), 0x67BF)
+        self.assertIsNone(unit.border_color_at(255, 223))
+        self.assertEqual(unit.map_entry(31, 27), 0)
+        entry = BorderMapEntry(0x5003)
+        self.assertEqual((entry.tile, entry.palette, entry.flip_x, entry.flip_y), (3, 4, True, False))
+        self.assertEqual(unit.tile(255), bytes(32))
+        self.assertEqual(b"".join(unit.row(y).tobytes() for y in range(224)), unit.picture().words.tobytes())
+        self.assertTrue(verdict(packet(0xB9, 0x02)))
+        self.assertFalse(verdict(packet(0xD1)))
+
+
+class Refusals(Case):
+    def test_each(self):
+        unit = Unit.post_boot()
+        before, broken = unit.block, bytearray(unit.block)
+        broken[13] = 1
+        self.refused(1, Unit.load, before[1:])
+        self.refused(1, Unit.load, b"")
+        self.refused(2, Unit.load, broken)
+        for length in (0, 5759, 5761):
+            self.refused(3, unit.update_screen, bytes(length))
+        outside = [(160, 0, 0), (0, 144, 0), (0, 0, 4), (-1, 0, 0), (0, -1, 0), (0, 0, -1), (0, 0, 256), (1 << 32, 0, 0), (1 << 64, 0, 0)]
+        for x, y, shade in outside:
+            self.refused(4, unit.color_at, x, y, shade)
+        for column, row in ((32, 0), (0, 28), (-1, 0), (0, 1 << 64)):
+            self.refused(4, unit.map_entry, column, row)
+        for x, y in ((256, 0), (0, 224), (-1, 0), (0, 1 << 64)):
+            self.refused(4, unit.border_color_at, x, y)
+        for y in (224, -1, 1 << 64):
+            self.refused(4, unit.row, y)
+        for n in (256, -1, 1 << 64):
+            self.refused(4, unit.tile, n)
+        for command in (b"", b"\x01" * 15, b"\x08" * 16, b"\x02" * 16, b"\x01" * 128):
+            self.refused(5, encode, command)
+            self.refused(5, verdict, command)
+        self.assertEqual(unit.block, before)
+
+    def test_lines(self):
+        screen = b"02" + b"1b" * 5760
+        self.assertEqual(parse_line(b"01"), (LineKind.WRITES, b""))
+        self.assertEqual(parse_line(b"0100fF"), (LineKind.WRITES, b"\x00\xFF"))
+        self.assertEqual(parse_line(b"01" * 5761), (LineKind.WRITES, b"\x01" * 5760))
+        self.assertEqual(parse_line(screen), (LineKind.SCREEN, b"\x1B" * 5760))
+        lines = [b"", b"0", b"00", b"03", b"013", b"0130\r", b"01 30", b"0130\n", b"0x30", b"01" * 5762, screen[:-2], screen + b"00"]
+        lines += [b"01" + pair for c in b"\r \t\0/:@G`g\xB1" for pair in (bytes([c]) + b"0", b"0" + bytes([c]))]
+        for text in lines:
+            self.refused(7, parse_line, text)
+            said = self.refused(7, plate, b"0130\n" + text + b"\n0130\n") if text != b"0130\n" else None
+            self.assertTrue(said is None or said.line == 2)
+        self.refused(7, plate, b"01" + b"30" * 20000)
+        self.assertEqual(self.refused(7, plate, b"\n").line, 1)
+        self.assertEqual(plate(b""), Unit.post_boot().picture())
+
+    def test_words(self):
+        for number in range(1, 8):
+            said = str(Refusal(number))
+            self.assertTrue(said.endswith(f" (refusal {number})"), said)
+        self.assertTrue(str(Refusal(7, 3)).startswith("line 3: "))
+        again = pickle.loads(pickle.dumps(Refusal(7, 3)))
+        self.assertEqual((again.number, again.line, str(again)), (7, 3, str(Refusal(7, 3))))
+        self.assertIsInstance(Refusal(2), ValueError)
+
+    def test_what_is_no_byte(self):
+        unit = Unit.post_boot()
+        before = unit.block
+        for value in (-1, 256, 1 << 64):
+            self.assertRaises(ValueError, unit.write_joypad, value)
+        for call, given in ((unit.write_joypad, 1.0), (unit.play, 30), (unit.play, "30"), (unit.update_screen, None), (parse_line, "01")):
+            self.assertRaises(TypeError, call, given)
+        self.assertRaises(TypeError, unit.color_at, 1.5, 0, 0)
+        self.assertRaises(FileNotFoundError, plate, "no such log")
+        self.assertEqual(unit.block, before)
+
+
+class Play(Case):
+    def writes(self, chance):
+        """Pulses of random commands, idle polls and random bytes in turns."""
+        for _ in range(chance.randrange(8)):
+            kind = chance.randrange(3)
+            if kind == 0:
+                yield bytes([0x20, 0x10, 0x30]) * chance.randrange(20)
+            elif kind == 1:
+                yield bytes(chance.randrange(256) for _ in range(chance.randrange(300)))
+            else:
+                packets = chance.randrange(1, 8)
+                rest = bytes(chance.randrange(256) for _ in range(16 * packets - 1))
+                yield encode(bytes([chance.randrange(30) << 3 | packets]) + rest)
+
+    def test_in_a_row_is_one_by_one(self):
+        chance = random.Random(20261116)
+        commands = 0
+        for _ in range(12):
+            single, row, whole = Unit.post_boot(), Unit.post_boot(), Unit.post_boot()
+            for _ in range(4):
+                writes = b"".join(self.writes(chance))
+                due = [(at, c) for at, c in enumerate(map(single.write_joypad, writes), 1) if c is not None]
+                told, at = [], 0
+                while at < len(writes):
+                    taken, command = row.play(writes[at:])
+                    at += taken
+                    if command is not None:
+                        told.append((at, command))
+                self.assertEqual(told, due)
+                self.assertEqual(whole.play_all(writes), [command for _, command in due])
+                self.assertEqual(row, single)
+                self.assertEqual(whole, single)
+                commands += len(due)
+        self.assertGreater(commands, 20)
+
+    def test_nothing_and_very_much(self):
+        unit = Unit.post_boot()
+        before = unit.copy()
+        self.assertEqual(unit.play(b""), (0, None))
+        self.assertEqual(unit.play_all(b""), [])
+        polls = b"\x30" * 1_048_580
+        self.assertEqual(unit.play(polls), (1_048_576, None))
+        self.assertEqual(unit.play_all(polls), [])
+        self.assertEqual(unit, before)
+
+
+class Pictures(Case):
+    def test_pixels(self):
+        picture = plate(read("dusk.log"))
+        self.assertEqual(len(picture.words), 57344)
+        self.assertEqual(picture.rgb[3 * (100 * 256 + 7) :][:3], bytes(picture[7, 100].rgb8))
+        for at in ((256, 0), (0, 224), (-1, 0)):
+            self.assertRaises(IndexError, picture.__getitem__, at)
+        self.assertRaises(ValueError, sporedrift.Picture, picture.words[1:])
+
+    def test_png(self):
+        picture = plate(read("dusk.log"))
+        self.assertEqual(pixels(picture.png()), picture.rgb)
+
+    def test_image(self):
+        picture = plate(read("dusk.log"))
+        if PIL is None:
+            with self.assertRaises(ImportError) as caught:
+                picture.image()
+            self.assertIn("Pillow", str(caught.exception))
+        else:
+            image = picture.image()
+            self.assertEqual((image.size, image.mode, image.tobytes()), ((256, 224), "RGB", picture.rgb))
+            self.assertEqual(PIL.Image.open(io.BytesIO(picture.png())).convert("RGB").tobytes(), picture.rgb)
+
+
+class Finding(Case):
+    def started(self, lib, path=PACKAGE):
+        """What a Python says that imports the module with SPOREDRIFT_LIB set so."""
+        words = [sys.executable, "-c", "import sporedrift; print(sporedrift.library_version())"]
+        env = {**os.environ, "SPOREDRIFT_LIB": lib, "PYTHONPATH": path, "PYTHONDONTWRITEBYTECODE": "1"}
+        return subprocess.run(words, env=env, stdout=subprocess.PIPE, stderr=subprocess.PIPE, text=True, cwd=tempfile.gettempdir())
+
+    def test_versions_agree(self):
+        self.assertEqual(sporedrift.library_version(), sporedrift.__version__)
+
+    def test_where_it_is_told(self):
+        file = importlib.import_module("sporedrift._calls")._library._name
+        if os.sep not in file:
+            self.skipTest("the system found it")
+        for lib in (file, os.path.dirname(os.path.realpath(file))):
+            self.assertEqual(self.started(lib).stdout.strip(), sporedrift.__version__)
+
+    def test_missing(self):
+        with tempfile.TemporaryDirectory() as folder:
+            for lib in (folder, os.path.join(folder, "none.so")):
+                said = self.started(lib)
+                self.assertNotEqual(said.returncode, 0)
+                self.assertIn("tools/export/lib", said.stderr)
+                self.assertIn(lib, said.stderr)
+
+    def test_another_library(self):
+        name = ctypes.util.find_library("c")
+        calls = importlib.import_module("sporedrift._calls")
+        with self.assertRaises(ImportError) as caught:
+            calls.checked(ctypes.CDLL(name), name)
+        self.assertIn(f"{name} does not tell its version", str(caught.exception))
+
+    def test_another_version(self):
+        calls = importlib.import_module("sporedrift._calls")
+        for major, minor in ((1, 1), (0, 2)):
+            old = calls.MAJOR, calls.MINOR
+            calls.MAJOR, calls.MINOR = major, minor
+            try:
+                with self.assertRaises(ImportError) as caught:
+                    calls.checked(calls._library, "it")
+            finally:
+                calls.MAJOR, calls.MINOR = old
+            self.assertIn(f"it is version {sporedrift.__version__}, and this module needs {major}.{minor}", str(caught.exception))
+
+    def test_the_wheel_has_all(self):
+        backend = importlib.import_module("backend")
+        file = importlib.import_module("sporedrift._calls")._library._name
+        with tempfile.TemporaryDirectory() as folder:
+            name = backend.build_wheel(folder)
+            self.assertEqual(name, f"sporedrift-{sporedrift.__version__}-py3-none-any.whl")
+            # a wheel is a zip, from which Python imports as it stands
+            said = self.started(file, os.path.join(folder, name))
+            self.assertEqual(said.stdout.strip(), sporedrift.__version__, said.stderr)
+            self.assertTrue(os.path.isfile(os.path.join(folder, backend.build_sdist(folder))))
+
+
+if __name__ == "__main__":
+    unittest.main()
