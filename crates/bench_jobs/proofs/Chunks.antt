@@ -1,14 +1,14 @@
 -- An input is taken chunk by chunk, each by one fill: what the fills require is kept, and what is left of the whole falls.
 use Prim.Native.Nat.{ℕ, _+_, _-_, _*_, _≤_, _<_}
 use mathlib.Core.List.{List}
-use mathlib.Core.Path.{_≡_, ap, ap₂, subst⁻¹}
+use mathlib.Core.Path.{_≡_, subst⁻¹}
 use native.Mathlib.Omega.{arith}
 use lib.ListN.{length, take, drop, length-take, length-drop}
 use Rattle.layout.specs.Fresh.{postBoot}
-use Rattle.log.specs.Steps.{Desk, desk, begun, Fit, Full, fill, filledTo, left}
+use Rattle.log.specs.Steps.{Desk, desk, begun, Fit, Full, left}
 use Rattle.log.specs.declared.Filled.{Filled}
 use Rattle.log_reading.specs.declared.Reading.{Reading}
-use Rattle.log.proofs.Fills.{Fill·Keeps, fill-keeps, fill-less}
+use Rattle.log.proofs.Filled.{full-fit, full-within, full-numbered, full-less}
 use Rattle.log_reader.specs.Fed.{LentSizes, outBytes}
 use Rattle.log_reader.proofs.Outcomes.{boot-fit}
 
@@ -37,36 +37,21 @@ unfolding left
 left-before r size at m h l = omega (arith, h, l)
 
 module _ (size room : ℕ) (r : Reading) (d : Desk) (at n : ℕ) (chunk out : List ℕ) (g : Filled) (e : Desk) (out′ : List ℕ) (s : Within size room r d at n) (f : Full r d chunk 0 out g e out′) (long : at + length chunk ≤ size) where
-  kept : Fill·Keeps r (length chunk) 0 (fill (length out) r d chunk 0)
-  kept = fill-keeps (length out) r d chunk 0 (s .fit) (omega arith)
-
-  reading-is : g .reading ≡ fill (length out) r d chunk 0 .reading
-  unfolding filledTo
-  reading-is = ap (λ (x : Filled). x .reading) (f .goes)
-
-  at-is : g .at ≡ fill (length out) r d chunk 0 .at
-  unfolding filledTo
-  at-is = ap (λ (x : Filled). x .at) (f .goes)
-
-  fits : Fit (g .reading) e
-  fits = subst⁻¹ (λ (x : Reading). Fit x e) reading-is (subst⁻¹ (λ (y : Desk). Fit (fill (length out) r d chunk 0 .reading) y) (f .lends) (kept .fit))
-
-  taken : g .at ≤ length chunk
-  taken = omega (arith, at-is, kept .within)
+  none : 0 ≤ length chunk
+  none = omega arith
 
   pub ends-within : at + g .at ≤ size
-  ends-within = omega (arith, taken, long)
+  ends-within = omega (arith, full-within r d chunk 0 out g e out′ (s .fit) none f, long)
 
   pub within-on : (m : ℕ) → m ≤ g .size → n + length out ≤ room → Within size room (g .reading) e (at + g .at) (n + m)
   within-on m h i = record {
-    fit = fits;
+    fit = full-fit r d chunk 0 out g e out′ (s .fit) none f;
     within = ends-within;
-    numbered = omega (arith, at-is, ap (λ (x : Reading). x .number) reading-is, kept .numbered, s .numbered);
+    numbered = omega (arith, full-numbered r d chunk 0 out g e out′ (s .fit) none f, s .numbered);
     roomy = omega (arith, f .fits, h, i);
   }
 
   pub left-falls : size - at ≤ length chunk * 4294967296 → outBytes ≤ length out → 0 < left r size at → left (g .reading) size (at + g .at) < left r size at
   left-falls h big more =
-      left-behind r (g .reading) size at (length chunk) (g .at) long taken
-      (subst⁻¹ (λ (n : ℕ). n < left r (length chunk) 0) (ap₂ (λ (x : Reading) (i : ℕ). left x (length chunk) i) reading-is at-is)
-      (fill-less (length out) r d chunk 0 (s .fit) (omega arith) (left-before r size at (length chunk) h more) (omega (arith, big))))
+      left-behind r (g .reading) size at (length chunk) (g .at) long (full-within r d chunk 0 out g e out′ (s .fit) none f)
+      (full-less r d chunk 0 out g e out′ (s .fit) none f (left-before r size at (length chunk) h more) (omega (arith, big)))

@@ -13,10 +13,11 @@ use Rattle.parts.specs.Parts.{captureBytes}
 use Rattle.log_writer.specs.Tally.{tallied, Sent}
 use Rattle.log.specs.Events.{Event}
 use Rattle.log.specs.Texts.{shown}
-use Rattle.log.specs.Steps.{Desk, Filling, fill, filledTo, Full, left, stepRoom, toTell, Fit}
+use Rattle.log.specs.Steps.{Desk, Filling, fill, Full, left, stepRoom, toTell, Fit}
 use Rattle.log.specs.declared.Filled.{Filled}
 use Rattle.log_reading.specs.declared.Reading.{Reading}
-use Rattle.log.proofs.Fills.{Tells, Fill·Keeps, fill-keeps, fill-less}
+use Rattle.log.proofs.Fills.{Tells}
+use Rattle.log.proofs.Filled.{full-reading, full-at, full-size, full-refused, full-fit, full-within, full-numbered, full-less}
 use Rattle.log.proofs.Prints.{Shape, fill-on, tells-on, fill-shape}
 use Rattle.log_reader.specs.Fed.{Kept}
 use Rattle.log_reader.specs.Read.{textOf, Unrefused, Stopped, isWell, ToldAs, Point, point, Goes, Onward, Cut, Halted, Stands}
@@ -54,43 +55,34 @@ module _ (quiet : Bool) (p q : Point) (chunk : List ℕ) (at : ℕ) (out : List 
   abbrev fs : List Event
   fs = F .events
 
-  k : Fill·Keeps (q .reading) (length chunk) at F
-  k = fill-keeps (length out) (q .reading) (q .desk) chunk at (t .fit) (t .within)
-
   reading-is : g .reading ≡ F .reading
-  unfolding filledTo
-  reading-is = ap (λ (x : Filled). x .reading) (f .goes)
+  reading-is = full-reading (q .reading) (q .desk) chunk at out g e out′ (t .fit) (t .within) f
 
   at-is : g .at ≡ F .at
-  unfolding filledTo
-  at-is = ap (λ (x : Filled). x .at) (f .goes)
+  at-is = full-at (q .reading) (q .desk) chunk at out g e out′ (t .fit) (t .within) f
 
   size-is : g .size ≡ length (shown fs)
-  unfolding filledTo
-  size-is = ap (λ (x : Filled). x .size) (f .goes)
+  size-is = full-size (q .reading) (q .desk) chunk at out g e out′ (t .fit) (t .within) f
 
   refused-is : g .refused ≡ F .refused
-  unfolding filledTo
-  refused-is = ap (λ (x : Filled). x .refused) (f .goes)
+  refused-is = full-refused (q .reading) (q .desk) chunk at out g e out′ (t .fit) (t .within) f
 
   -- ---- what is kept
 
   pub filled-fit : Fit (g .reading) e
-  filled-fit = subst⁻¹ (λ (x : Reading). Fit x e) reading-is (subst⁻¹ (λ (y : Desk). Fit (F .reading) y) (f .lends) (k .fit))
+  filled-fit = full-fit (q .reading) (q .desk) chunk at out g e out′ (t .fit) (t .within) f
 
   pub filled-within : g .at ≤ length chunk
-  filled-within = omega (arith, at-is, k .within)
+  filled-within = full-within (q .reading) (q .desk) chunk at out g e out′ (t .fit) (t .within) f
 
   pub filled-numbered : g .reading .number ≤ p .reading .number + g .at
-  filled-numbered = omega (arith, at-is, ap (λ (x : Reading). x .number) reading-is, k .numbered, t .numbered)
+  filled-numbered = omega (arith, full-numbered (q .reading) (q .desk) chunk at out g e out′ (t .fit) (t .within) f, t .numbered)
 
   pub filled-kept : (s : State) → Kept (p .reading) (length chunk) (record { reading = g .reading; state = s }) e
   filled-kept s = record { fit = filled-fit; numbered = omega (arith, filled-numbered, filled-within) }
 
   pub filled-less : 0 < left (q .reading) (length chunk) at → stepRoom ≤ length out → left (g .reading) (length chunk) (g .at) < left (q .reading) (length chunk) at
-  filled-less more big =
-      subst⁻¹ (λ (n : ℕ). n < left (q .reading) (length chunk) at) (ap₂ (λ (x : Reading) (i : ℕ). left x (length chunk) i) reading-is at-is)
-      (fill-less (length out) (q .reading) (q .desk) chunk at (t .fit) (t .within) more big)
+  filled-less = full-less (q .reading) (q .desk) chunk at out g e out′ (t .fit) (t .within) f
 
   -- ---- what is told
 
