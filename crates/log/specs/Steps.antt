@@ -24,7 +24,8 @@ use Rattle.log_line.specs.declared.lines.Held.{Held}
 use Rattle.log.specs.Events.{Event, completed, refusal, writeEvents, afterWrites, eventsFrom, afterLines}
 use Rattle.log.specs.Texts.{shown}
 use Rattle.log_reading.specs.declared.Reading.{Reading}
-pub use Rattle.log_reading.specs.Point.{begun, left, lastLf}
+pub use Rattle.log_reading.specs.Point.{begun}
+unfoldable pub use Rattle.log_reading.specs.Point.{left, lastLf}
 use Rattle.log.specs.declared.Filled.{Filled}
 use Rattle.log.specs.declared.Step.{Step}
 use Rattle.log.specs.declared.Told.{Told}

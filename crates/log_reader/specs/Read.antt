@@ -8,7 +8,7 @@ use lib.ListN.{length, take}
 use Rattle.layout.specs.Block.{load}
 use Rattle.log_text.specs.Text.{refusalText}
 use Rattle.log_writer.specs.Tally.{tallied}
-pub use Rattle.log_writer.specs.Told.{ToldAs}
+unfoldable pub use Rattle.log_writer.specs.Told.{ToldAs}
 use Rattle.log.specs.Events.{Event, eventsOf, unitAfter}
 use Rattle.log.specs.Texts.{shown, refusedOr, pictureLines, plateText}
 use Rattle.log.specs.Steps.{Desk, toTell, toEnd, Fit}
