@@ -8,7 +8,7 @@ use Rattle.layout.specs.Fresh.{postBoot}
 use Rattle.log.specs.Steps.{Desk, desk, begun, Fit, Full, left}
 use Rattle.log.specs.declared.Filled.{Filled}
 use Rattle.log_reading.specs.declared.Reading.{Reading}
-use Rattle.log.proofs.Filled.{full-fit, full-within, full-numbered, full-less}
+use Rattle.log.proofs.Fulls.{full-fit, full-within, full-numbered, full-less}
 use Rattle.log_reader.specs.Fed.{LentSizes, outBytes}
 use Rattle.log_reader.proofs.Outcomes.{boot-fit}
 

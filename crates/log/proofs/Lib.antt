@@ -2,7 +2,7 @@ pub mod Takes
 pub mod Tells
 pub mod Keeps
 pub mod Fills
-pub mod Filled
+pub mod Fulls
 pub mod Coded
 pub mod Whole
 pub mod Stepping

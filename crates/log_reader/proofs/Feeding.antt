@@ -17,7 +17,7 @@ use Rattle.log.specs.Steps.{Desk, Filling, fill, Full, left, stepRoom, toTell, 
 use Rattle.log.specs.declared.Filled.{Filled}
 use Rattle.log_reading.specs.declared.Reading.{Reading}
 use Rattle.log.proofs.Fills.{Tells}
-use Rattle.log.proofs.Filled.{full-reading, full-at, full-size, full-refused, full-fit, full-within, full-numbered, full-less}
+use Rattle.log.proofs.Fulls.{full-reading, full-at, full-size, full-refused, full-fit, full-within, full-numbered, full-less}
 use Rattle.log.proofs.Prints.{Shape, fill-on, tells-on, fill-shape}
 use Rattle.log_reader.specs.Fed.{Kept}
 use Rattle.log_reader.specs.Read.{textOf, Unrefused, Stopped, isWell, ToldAs, Point, point, Goes, Onward, Cut, Halted, Stands}
