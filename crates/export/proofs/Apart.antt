@@ -8,7 +8,7 @@ use mathlib.Core.List.{List}
 use mathlib.Core.Logic.{_⊎_, inl, inr, ⊎-elim}
 use mathlib.Core.Option.{Option, none, some}
 use lib.Dec.{eqb, ltb, leb, lit≤}
-use lib.ListN.{length}
+use lib.ListN.{length, take}
 use Rattle.bits.specs.Determined.{Once}
 use Rattle.bits.proofs.Tests.{either}
 use Rattle.colour.specs.declared.Rgb8.{Rgb8}
@@ -20,12 +20,18 @@ use Rattle.parts.specs.Parts.{blockBytes, storeBytes, captureBytes}
 use Rattle.layout.specs.Valid.{valid}
 use Rattle.view.specs.Refusal.{refusing}
 use Rattle.view.specs.Looks.{modeOf, backdropAnswer, shadeAnswer, entryAnswer, borderAnswer, rowAnswer, pictureAnswer}
-use Rattle.unit.specs.Calls.{withRoom, writeAnswer, screenAnswer}
-use Rattle.unit.specs.Plays.{Taken, playAnswer}
+use Rattle.unit.specs.Calls.{packetsAnswered, withRoom, writeAnswer, screenAnswer}
+use Rattle.rules.proofs.Keeps.{WholeIf}
+use Rattle.layout.specs.Block.{load}
+use Rattle.layout.proofs.Goods.{valid-good}
+use Rattle.block_port.specs.Bytes.{packetsTold}
+use Rattle.block_writes.proofs.Plays.{kept-played}
+use Rattle.unit.specs.Plays.{playMost, playedBy, Taken, playAnswer}
 use Rattle.log_line.specs.Line.{Meaning, writes, screen, meaningOf}
 use Rattle.log_line.specs.Line.{refused as noLine}
 use Rattle.log_line.specs.Calls.{Content, writesOf, oneScreen, meaningTold, lineAnswer}
-use Rattle.export_answers.specs.Coded.{coded, value, optional, truth, packetsNumber, run, content}
+use Rattle.export_answers.specs.Coded.{coded, value, optional, truth, packetsNumber, run, content, RunFits}
+use Rattle.export.proofs.Fitting.{play-fits}
 use Rattle.export.specs.Parts.{rgbNumber}
 
 -- ---- a code of values that stays clear of the refusals
@@ -121,6 +127,10 @@ run-of : (t u : Taken) → packetsNumber (t .packets) < 8 → packetsNumber (u .
     → (t .writes ≡ u .writes) × (packetsNumber (t .packets) ≡ packetsNumber (u .packets))
 unfolding run
 run-of t u p q e = eighths-of (t .writes) (packetsNumber (t .packets)) (u .writes) (packetsNumber (u .packets)) p q (value-once _ _ e)
+
+run-clear : Clear run
+unfolding run
+run-clear t = value-clear (8 * t .writes + packetsNumber (t .packets))
 
 -- a command has a packet at least
 pub run-apart : (t u : Taken) → packetsNumber (t .packets) < 8 → packetsNumber (u .packets) < 8 → Completes (t .packets) → Completes (u .packets) → run t ≡ run u → t ≡ u
@@ -222,3 +232,37 @@ meaning-numbered noLine = refused-numbered _ 7 (lit≤ tt) (lit≤ tt)
 pub line-numbered : (text bytes : List ℕ) → Numbered (lineAnswer text bytes)
 unfolding lineAnswer
 line-numbered text bytes = test-numbered (leb captureBytes (length bytes)) _ 6 (meaning-numbered (meaningOf text)) (lit≤ tt) (lit≤ tt)
+
+-- ---- what `play` answers is told whole
+
+packets-some : (o : Option (List ℕ)) → WholeIf o → Completes (packetsAnswered o)
+unfolding Completes packetsAnswered packetsTold
+packets-some none w = tt
+packets-some (some d) w = omega (arith, w .least)
+
+unfoldable pub Tells : Answer Taken → Type 0
+Tells (refused n) = Unit {0}
+Tells (given t) = Completes (t .packets)
+
+play-tells : (b ws command : List ℕ) → Tells (playAnswer b ws command)
+unfolding playAnswer withRoom refusing Tells
+play-tells b ws command =
+    either Tells (eqb (length b) blockBytes)
+    (λ _.
+    either Tells (valid b)
+    (λ v.
+    either Tells (leb storeBytes (length command))
+    (λ _. packets-some (playedBy b ws .told) (kept-played (load b) (take playMost ws) (valid-good b v) .whole)) (λ _. tt)) (λ _. tt)) (λ _. tt)
+
+told-once : (a b : Answer Taken) → Numbered a → Numbered b → RunFits a → RunFits b → Tells a → Tells b → coded run a ≡ coded run b → a ≡ b
+unfolding coded Numbered RunFits Tells
+told-once (refused m) (refused n) p q f g s t e = ap refused e
+told-once (refused m) (given y) p q f g s t e = absurd (⊎-elim (λ z. omega arith) (λ z. omega arith) (run-clear y))
+told-once (given x) (refused n) p q f g s t e = absurd (⊎-elim (λ z. omega arith) (λ z. omega arith) (run-clear x))
+told-once (given x) (given y) p q f g s t e = ap given (run-apart x y (f .1) (g .1) s t e)
+
+pub play-apart : (b ws command b′ ws′ command′ : List ℕ) → coded run (playAnswer b ws command) ≡ coded run (playAnswer b′ ws′ command′)
+    → playAnswer b ws command ≡ playAnswer b′ ws′ command′
+play-apart b ws command b′ ws′ command′ =
+    told-once (playAnswer b ws command) (playAnswer b′ ws′ command′) (play-numbered b ws command) (play-numbered b′ ws′ command′)
+    (play-fits b ws command) (play-fits b′ ws′ command′) (play-tells b ws command) (play-tells b′ ws′ command′)
