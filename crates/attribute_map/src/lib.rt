@@ -1,7 +1,8 @@
 // The attribute map by value, a palette number for each cell of eighteen rows of twenty, and its ninety packed bytes.
-// RULES 1.3; Pan Docs, Attributes. The commands that change a map are in the crate `attributes`.
+// RULES 1.3; Pan Docs, Attributes. The commands that change a map are in the crate `attributes`,
+// ATTR_BLK in `attribute_blocks` and ATTR_CHR in `attribute_cells`; what they share is here.
 ghost use mathlib.Core.Path.{_≡_};
-ghost use Prim.Native.Nat.{_+_, _*_, _%_};
+ghost use Prim.Native.Nat.{_+_, _*_, _%_, min};
 ghost use lib.ListN.{length};
 ghost use Rattle.parts.specs.Parts.{mapBytes};
 ghost use Rattle.attribute_map.specs.Map.{pack, unpack};
@@ -45,4 +46,11 @@ fn four(a: u8, b: u8, c: u8, d: u8) -> u8
     ensures { λ r. ⌜ r ≡ a % 4 * 64 + b % 4 * 16 + c % 4 * 4 + d % 4 ⌝ }
 {
     (a & 3) << 6 | (b & 3) << 4 | (c & 3) << 2 | d & 3
+}
+
+// How many turns: as many as a command announces, or as its data hold.
+pub fn lesser(announced: usize, held: usize) -> usize
+    ensures { λ r. ⌜ r ≡ min announced held ⌝ }
+{
+    if announced < held { announced } else { held }
 }

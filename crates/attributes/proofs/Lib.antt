@@ -1,4 +1,2 @@
-pub mod Places
 pub mod Readings
-pub mod Steps
 pub mod Vectors

@@ -1,52 +1,17 @@
 -- Worked examples of the attribute commands, computed: those of RULES 10, and one for each rule that they leave out. Where a map `m`
 -- stands in one, it holds whatever the map held.
 use mathlib.Core.Path.{_≡_, refl}
-use mathlib.Core.Bool.{_&&_, cond}
+use mathlib.Core.Bool.{cond}
 use mathlib.Core.List.{List, _∷_}
 use Prim.Native.Nat.{ℕ}
-use lib.Dec.{eqb, ltb, leb}
+use lib.Dec.{eqb}
 use lib.ListN.{replicate}
 use Rattle.bits.specs.Bit.{bitOf}
-use Rattle.bits.specs.Pair.{pairOf}
 use Rattle.bits.specs.Tab.{tab, tabFrom}
-use Rattle.bits.specs.Word.{word, wordAt}
 use Rattle.attribute_map.specs.Map.{rowsFrom, grid, cell}
-use Rattle.attributes.specs.Data.{steps}
-use Rattle.attributes.specs.Blk.{onLine, blkPick, blkCell, setAt, blkMap}
-use Rattle.attributes.specs.Chr.{next, placeOf, putAt, pairOfData, chrMap}
+use Rattle.attribute_map.specs.Data.{steps}
 use Rattle.attributes.specs.Div.{sideOf, divCell, divMap}
 use Rattle.attributes.specs.Lin.{linCell, linMap}
-use Rattle.attribute_map.proofs.Painting.{stored}
-
--- ---- ATTR_BLK
-
--- one set that is set inside alone, with one corner twice: this cell is its line, and follows the inside
-pub blk-one-cell : (m : List (List ℕ)) → blkMap (0x21 ∷ 1 ∷ 1 ∷ 0x02 ∷ 3 ∷ 3 ∷ 3 ∷ 3 ∷ replicate 8 0) m ≡ grid (λ x y. cond (eqb x 3 && eqb y 3) 2 (cell m x y))
-unfolding blkMap setAt blkCell blkPick onLine bitOf steps grid rowsFrom tab tabFrom
-blk-one-cell m = refl
-
--- one set that is set outside alone, with its corners crossed: every cell is outside
-pub blk-all : (m : List (List ℕ)) → blkMap (0x21 ∷ 1 ∷ 4 ∷ 0x10 ∷ 5 ∷ 0 ∷ 4 ∷ 17 ∷ replicate 8 0) m ≡ grid (λ x y. 1)
-unfolding blkMap setAt blkCell blkPick onLine bitOf steps grid rowsFrom tab tabFrom
-blk-all m = refl
-
--- the palettes 1 inside, 2 line, 3 outside, on the corners (2,3) (5,7)
-abbrev block : ℕ → List (List ℕ) → List (List ℕ)
-block control m = blkMap (0x21 ∷ 1 ∷ control ∷ 0x39 ∷ 2 ∷ 3 ∷ 5 ∷ 7 ∷ replicate 8 0) m
-
--- the map whose cells inside, on the line and outside are these
-abbrev lying : (ℕ → ℕ → ℕ) → (ℕ → ℕ → ℕ) → (ℕ → ℕ → ℕ) → List (List ℕ)
-lying i l o = grid (λ x y. cond (ltb 2 x && ltb x 5 && ltb 3 y && ltb y 7) (i x y) (cond (leb 2 x && leb x 5 && leb 3 y && leb y 7) (l x y) (o x y)))
-
--- the line as inside where that alone is set, as outside where that alone is, and as it was where both are; by itself where it is set
-pub blk-lines : (m : List (List ℕ))
-    → (block 1 m ≡ lying (λ x y. 1) (λ x y. 1) (cell m))
-    × (block 4 m ≡ lying (cell m) (λ x y. 3) (λ x y. 3))
-    × (block 5 m ≡ lying (λ x y. 1) (cell m) (λ x y. 3))
-    × (block 2 m ≡ lying (cell m) (λ x y. 2) (cell m))
-    × (block 7 m ≡ lying (λ x y. 1) (λ x y. 2) (λ x y. 3))
-unfolding blkMap setAt blkCell blkPick onLine bitOf steps grid rowsFrom tab tabFrom
-blk-lines m = (refl, refl, refl, refl, refl)
 
 -- ---- ATTR_LIN
 
@@ -75,27 +40,3 @@ div-row = (refl, refl, refl)
 pub div-past : divided 0x39 0x27 ≡ grid (λ x y. 2)
 unfolding divMap divCell sideOf bitOf grid rowsFrom tab tabFrom
 div-past = refl
-
--- ---- ATTR_CHR
-
--- two cells from the map's last one on: the second is off the map
-pub chr-one-cell : (m : List (List ℕ)) → chrMap (0x39 ∷ 19 ∷ 17 ∷ 2 ∷ 0 ∷ 0 ∷ 0xF0 ∷ replicate 9 0) m ≡ stored m 19 17 3
-unfolding chrMap placeOf next putAt pairOfData pairOf wordAt word steps
-chr-one-cell m = refl
-
--- down columns from (3, 16), the pairs 1, 2, 3, 0, 3: the end of column 3, then the start of column 4
-pub chr-down : (m : List (List ℕ))
-    → chrMap (0x39 ∷ 3 ∷ 16 ∷ 5 ∷ 0 ∷ 1 ∷ 0x6C ∷ 0xC0 ∷ replicate 8 0) m ≡ stored (stored (stored (stored (stored m 3 16 1) 3 17 2) 4 0 3) 4 1 0) 4 2 3
-unfolding chrMap placeOf next putAt pairOfData pairOf wordAt word steps
-chr-down m = refl
-
--- the same pairs along rows from (18, 2)
-pub chr-along : (m : List (List ℕ))
-    → chrMap (0x39 ∷ 18 ∷ 2 ∷ 5 ∷ 0 ∷ 0 ∷ 0x6C ∷ 0xC0 ∷ replicate 8 0) m ≡ stored (stored (stored (stored (stored m 18 2 1) 19 2 2) 0 3 3) 1 3 0) 2 3 3
-unfolding chrMap placeOf next putAt pairOfData pairOf wordAt word steps
-chr-along m = refl
-
--- down columns from (2, 18), which is off the map and uses up the 1: the 2 is the start of column 3
-pub chr-off : (m : List (List ℕ)) → chrMap (0x39 ∷ 2 ∷ 18 ∷ 2 ∷ 0 ∷ 1 ∷ 0x6C ∷ replicate 9 0) m ≡ stored m 3 0 2
-unfolding chrMap placeOf next putAt pairOfData pairOf wordAt word steps
-chr-off m = refl

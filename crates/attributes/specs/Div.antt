@@ -6,7 +6,7 @@ use lib.ListN.{getD}
 use lib.Dec.{ltb, eqb}
 use Rattle.bits.specs.Bit.{bitOf}
 use Rattle.attribute_map.specs.Map.{grid}
-use Rattle.attributes.specs.Data.{paletteAt}
+use Rattle.attribute_map.specs.Data.{paletteAt}
 
 -- the palette of a row or column p against the line at c: before, on, after
 unfoldable pub sideOf : ℕ → ℕ → ℕ → ℕ

@@ -1,5 +1,2 @@
-pub mod Data
-pub mod Blk
 pub mod Lin
 pub mod Div
-pub mod Chr

@@ -5,7 +5,7 @@ use Prim.Native.Nat.{ℕ, _+_, _-_, _%_, min}
 use lib.ListN.{length, getD}
 use lib.Dec.{eqb}
 use Rattle.bits.specs.Bit.{bitOf}
-use Rattle.attributes.specs.Data.{paletteAt, changed, steps}
+use Rattle.attribute_map.specs.Data.{paletteAt, changed, steps}
 
 -- one byte: the line in its low five bits is a row if bit 7 is set, else a column; bits 5 and 6 the palette. A line past the map meets no cell
 unfoldable pub linCell : ℕ → ℕ → ℕ → ℕ → ℕ

@@ -1,7 +1,7 @@
 // ATTR_DIV: the map in two halves and the line between.
 ghost use mathlib.Core.Path.{_≡_};
 ghost use Rattle.attribute_map.specs.Map.{grid};
-ghost use Rattle.attributes.specs.Data.{Whole};
+ghost use Rattle.attribute_map.specs.Data.{Whole};
 ghost use Rattle.attributes.specs.Div.{sideOf, divCell, divMap};
 
 pub fn attr_div(map: [[u8; 20]; 18], d: &[u8]) -> [[u8; 20]; 18]

@@ -1,13 +1,14 @@
 // ATTR_LIN: whole rows and columns.
 ghost use mathlib.Core.Path.{_≡_};
-ghost use Rattle.attributes.specs.Data.{Whole, changed};
+ghost use Rattle.attribute_map.specs.Data.{Whole, changed};
 ghost use Rattle.attributes.specs.Lin.{linCell, linMap};
+use attribute_map::lesser;
 
 pub fn attr_lin(map: [[u8; 20]; 18], d: &[u8]) -> [[u8; 20]; 18]
     requires { ⌜ Whole (now d) ⌝ }
     ensures { λ r. ⌜ r ≡ linMap (now (d .entry)) map ⌝ }
 {
-    let total = super::lesser(bits::wide(d[1]), d.len() - 2);
+    let total = lesser(bits::wide(d[1]), d.len() - 2);
     let mut m = map;
     let mut i: usize = 0;
     while i < total {

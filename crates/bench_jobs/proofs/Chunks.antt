@@ -7,7 +7,7 @@ use lib.ListN.{length, take, drop, length-take, length-drop}
 use Rattle.layout.specs.Fresh.{postBoot}
 use Rattle.log.specs.Steps.{Desk, desk, begun, Fit, Full, fill, filledTo, left}
 use Rattle.log.specs.declared.Filled.{Filled}
-use Rattle.log.specs.declared.Reading.{Reading}
+use Rattle.log_reading.specs.declared.Reading.{Reading}
 use Rattle.log.proofs.Fills.{Fill·Keeps, fill-keeps, fill-less}
 use Rattle.log_reader.specs.Fed.{LentSizes, outBytes}
 use Rattle.log_reader.proofs.Outcomes.{boot-fit}

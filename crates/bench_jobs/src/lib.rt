@@ -12,9 +12,9 @@ ghost use mathlib.Core.Bool.{true};
 ghost use Rattle.log_line.specs.Line.{lineDigits};
 ghost use Rattle.log.specs.Steps.{desk, left};
 ghost use Rattle.log_reader.specs.Fed.{LentSizes, chunkBytes, outBytes};
-use log::Reading;
 use log_reader::CHUNK_BYTES;
 use log_reader::OUT_BYTES;
+use log_reading::Reading;
 
 // A row of the picture as text, and all of them.
 const ROW: usize = 1025;
@@ -102,7 +102,7 @@ fn read_log(
     ensures { λ r. ⌜ Valid (now (block .exit)) × (r ≤ length (now (text .entry))) ⌝ }
 {
     block_fresh::post_boot(block);
-    let mut reading = log::begin();
+    let mut reading = log_reading::begin();
     let mut at: usize = 0;
     let mut n: usize = 0;
     while goes_on(reading, input.len(), at, text.len() - n) {
@@ -132,7 +132,7 @@ fn goes_on(reading: Reading, size: usize, at: usize, room: usize) -> bool
     if room < OUT_BYTES {
         return false;
     }
-    log::is_left(reading, size, at)
+    log_reading::is_left(reading, size, at)
 }
 
 fn kept(size: usize, keep: bool) -> usize

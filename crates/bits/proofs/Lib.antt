@@ -1,6 +1,7 @@
 pub mod Determined
 pub mod Eights
 pub mod Every
+pub mod Folds
 pub mod Masks
 pub mod Overs
 pub mod Painting

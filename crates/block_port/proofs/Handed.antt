@@ -7,7 +7,7 @@ use native.Mathlib.Omega.{arith}
 use lib.ListN.{length, take, drop, length-take, length-append, length-drop}
 use lib.Seq.{take-at}
 use Rattle.parts.specs.Parts.{storeBytes}
-use Rattle.attributes.specs.Data.{Whole}
+use Rattle.attribute_map.specs.Data.{Whole}
 use Rattle.commands.specs.Command.{decode}
 use Rattle.layout.specs.Sgb.{Sgb}
 use Rattle.rules.specs.Carry.{plainly, carriedGame, carriedSnes, carried}

@@ -21,12 +21,13 @@ use Rattle.transfer.proofs.Parts.{page-long, border-long}
 use Rattle.layout.specs.Block.{load, save, parts}
 use Rattle.layout.specs.Good.{Good}
 use Rattle.layout.specs.Sgb.{Sgb}
+use Rattle.layout.specs.Valid.{Valid}
 use Rattle.layout.proofs.Goods.{valid-good, good-back, saved-valid}
 use Rattle.layout.proofs.Made.{Made, made-of, made-put, made-set, made-save, over-inside}
 use Rattle.layout.proofs.Saved.{clauses, save-load, long-part}
 use Rattle.rules.specs.Screen.{captured, withSystem, withFiles, withTiles, withBorder, landed, landing, shown, screened}
 use Rattle.rules.proofs.Keeps.{captured-good}
-use Rattle.block_command.specs.Carrying.{Valid, pendingStored}
+use Rattle.block_fixed.specs.Changing.{pendingStored}
 use Rattle.block_screen.specs.Shown.{withSnes, snesBlock, countedDown}
 
 -- ---- the two bytes

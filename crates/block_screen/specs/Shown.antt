@@ -4,7 +4,7 @@ use mathlib.Core.List.{List}
 use Rattle.transfer.specs.Pending.{fallen}
 use Rattle.layout.specs.Block.{load, save}
 use Rattle.layout.specs.Sgb.{Sgb, Snes}
-use Rattle.block_command.specs.Carrying.{pendingStored}
+use Rattle.block_fixed.specs.Changing.{pendingStored}
 
 -- the unit after the change f, and its block
 abbrev pub withSnes : (Snes → Snes) → Sgb → Sgb

@@ -3,7 +3,7 @@
 // in the crate `transfer`. Every worker requires a valid block and leaves one.
 ghost use mathlib.Core.Path.{_≡_};
 ghost use lib.ListN.{length};
-ghost use Rattle.block_command.specs.Carrying.{Valid};
+ghost use Rattle.layout.specs.Valid.{Valid};
 ghost use Rattle.layout.specs.Block.{load, save};
 ghost use Rattle.parts.specs.Parts.{blockBytes, captureBytes};
 ghost use Rattle.rules.specs.Screen as rules;
@@ -31,7 +31,7 @@ fn count_down(block: &mut [u8]) -> Landed
 {
     let pending = Pending::load(block[COUNTDOWN], block[KIND]);
     let left = pending.fall();
-    block_command::store_pending(block, left);
+    block_fixed::store_pending(block, left);
     pending.lands()
 }
 

@@ -14,7 +14,7 @@ use Rattle.receiver.specs.Receive.{Rx, rxOf}
 use Rattle.receiver.specs.Store.{packetsOf}
 use Rattle.receiver.specs.declared.Receiver.{Receiver}
 use Rattle.receiver.proofs.Keeps.{v3-sound}
-use Rattle.attributes.specs.Data.{Whole}
+use Rattle.attribute_map.specs.Data.{Whole}
 use Rattle.commands.specs.Command.{Command, decode}
 use Rattle.receiver_run.specs.Run.{Ended, lined, onward, runs, Ready, portOf, endedOf}
 use Rattle.receiver_run.specs.declared.Lines.{Lines}
@@ -32,8 +32,8 @@ use Rattle.rules.proofs.Keeps.{WholeIf, answered-whole, good-stepped, good-writ
 use Rattle.block_port.specs.Bytes.{linesOf, putReceiver, putLines, handed, packetsTold, taken, settled}
 use Rattle.block_port.proofs.Steps.{port-made, length-receiver, packets-taken}
 use Rattle.block_port.proofs.Handed.{none-carried, front}
-use Rattle.block_command.specs.Carrying.{carriedBlock}
-use Rattle.block_command.proofs.Chain.{carried-good}
+use Rattle.block_plain.specs.Carrying.{carriedBlock}
+use Rattle.block_command.proofs.Told.{carried-good}
 use Rattle.block_writes.specs.Play.{Played, played}
 use Rattle.block_writes.specs.Ran.{handedOver, commandOf, ranTo, ranUnit}
 use Rattle.block_writes.proofs.Plays.{further, none-written, one-written, one-stepped, mk, plays}

@@ -9,7 +9,7 @@ use borrow.Author.Tests.{eq-eqb, ne-eqb}
 use lib.Dec.{eqb, lit<}
 use lib.ListN.{getD}
 use Rattle.receiver.specs.Count.{codeOf}
-use Rattle.attributes.specs.Data.{Whole}
+use Rattle.attribute_map.specs.Data.{Whole}
 use Rattle.commands.specs.Command.{Command, masking, Row, table, find, decode}
 use Rattle.commands.specs.Good.{GoodCommand}
 

@@ -16,8 +16,8 @@ use Rattle.bits.proofs.Every.{same-below₂}
 use Rattle.bits.proofs.Overs.{length-part}
 use Rattle.attribute_map.specs.Map.{unpack}
 use Rattle.attribute_map.proofs.Packing.{length-pack}
-use Rattle.attributes.specs.Blk.{blkMap}
-use Rattle.attributes.specs.Chr.{chrMap}
+use Rattle.attribute_blocks.specs.Blk.{blkMap}
+use Rattle.attribute_cells.specs.Chr.{chrMap}
 use Rattle.attributes.specs.Div.{divMap}
 use Rattle.attributes.specs.Lin.{linMap}
 use Rattle.commands.specs.Files.{fileCount, fileOf, attrSetMap, palSetMap}

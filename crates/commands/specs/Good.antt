@@ -1,7 +1,7 @@
 -- What every decoded command is like: its palettes are there, its bytes are whole, and a plain MASK_EN does not freeze.
 use mathlib.Core.Path.{_≡_}
 use Prim.Native.Nat.{_<_}
-use Rattle.attributes.specs.Data.{Whole}
+use Rattle.attribute_map.specs.Data.{Whole}
 use Rattle.commands.specs.Command.{Plain, palPair, attrBlk, attrLin, attrDiv, attrChr, mltReq, maskEn, nothing, Fixed, palSet, attrSet, freeze, transfer, Command, plain, fixed}
 
 abbrev pub GoodPlain : Plain → Type 0

@@ -2,8 +2,8 @@
 use mathlib.Core.List.{List}
 use Prim.Native.Nat.{ℕ}
 use Rattle.attribute_map.specs.Map.{pack, unpack}
-use Rattle.attributes.specs.Blk.{blkMap}
-use Rattle.attributes.specs.Chr.{chrMap}
+use Rattle.attribute_blocks.specs.Blk.{blkMap}
+use Rattle.attribute_cells.specs.Chr.{chrMap}
 use Rattle.attributes.specs.Div.{divMap}
 use Rattle.attributes.specs.Lin.{linMap}
 

@@ -1,5 +1,5 @@
 // A completed command: which it is, and what it does to the pads and the packed attribute map.
-// RULES 4; Pan Docs, Command summary. The palette commands are in the crate `palettes`, the mask is `block_command`'s.
+// RULES 4; Pan Docs, Command summary. The palette commands are in the crate `palettes`, the mask is `block_plain`'s.
 mod decoding;
 mod files;
 mod joypads;

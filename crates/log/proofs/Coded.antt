@@ -35,7 +35,7 @@ use Rattle.log.proofs.Keeps.{filled-long}
 use Rattle.log_line.specs.declared.Line.{Line}
 use Rattle.log_line.specs.declared.Line.the-variants as L
 use Rattle.log.specs.Steps.{Desk, desk, pending, toldOf, ranOn, playedTo, answerOf, nextLine, endedAs, ended, toldBy, ToldFits, goesOn, stepRoom, left, lastLf}
-use Rattle.log.specs.declared.Reading.{Reading}
+use Rattle.log_reading.specs.declared.Reading.{Reading}
 use Rattle.log.specs.declared.Step.{Step}
 use Rattle.log.specs.declared.Told.{Told}
 use Rattle.log.specs.declared.Told.the-variants.{Nothing, Command, Refused}
@@ -203,21 +203,6 @@ module _ (over? : Bool) (written : ℕ) (r : Reading) (at size room : ℕ) where
   pub goes-if : over? ≡ false → written ≤ room → stepRoom ≤ room - written → (t : Bool) → t ≡ ltb 0 (left r size at) → t ≡ goesOn over? written r at size room
   unfolding goesOn
   goes-if e h l t g = let f : leb (written + stepRoom) room ≡ true = le-leb (written + stepRoom) room (omega arith) in rw (e, f) g
-
--- ---- the last LF
-
-module _ (r : Reading) where
-  pub last-long : r .held .long ≡ true → 1 ≡ length (lastLf r)
-  unfolding lastLf
-  last-long e = rw e
-
-  pub last-some : r .held .long ≡ false → 0 < r .held .size → 1 ≡ length (lastLf r)
-  unfolding lastLf
-  last-some e h = rw (e, lt-ltb 0 (r .held .size) h)
-
-  pub last-none : r .held .long ≡ false → r .held .size ≤ 0 → 0 ≡ length (lastLf r)
-  unfolding lastLf
-  last-none e h = rw (e, le-ltb 0 (r .held .size) h)
 
 -- ---- the closing line of `replay`, and a row of `plate`
 

@@ -12,7 +12,7 @@ use Rattle.layout.specs.Sgb.{Sgb}
 use Rattle.log.specs.Events.{Event}
 use Rattle.log.specs.Texts.{shown}
 use Rattle.log.specs.Steps.{Desk, Stepped, ranOn, playedTo, stepped, eventsOn, goesOn, stepRoom, Filling, nextBy, next, fills, fill, left, toTell, toEnd, Fit}
-use Rattle.log.specs.declared.Reading.{Reading}
+use Rattle.log_reading.specs.declared.Reading.{Reading}
 use Rattle.log.proofs.Tells.{ran-tells, ran-ends}
 use Rattle.log.proofs.Takes.{took-tells, took-ends}
 use Rattle.log.proofs.Keeps.{Step·Keeps, step-keeps}

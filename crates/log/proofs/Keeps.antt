@@ -25,7 +25,7 @@ use Rattle.log_line.specs.Split.{heldAs, taken, tookHeld, tookLine, upToLf, lfA
 use Rattle.log_line.specs.Calls.{filled}
 use Rattle.log_line.proofs.Splitting.{lf-within, took-fits, length-took}
 use Rattle.log.specs.Steps.{Desk, Stepped, pending, playedTo, ranOn, endedAs, ended, took, tookOn, stepped, holding, withLine, left, Fit}
-use Rattle.log.specs.declared.Reading.{Reading}
+use Rattle.log_reading.specs.declared.Reading.{Reading}
 use Rattle.block_writes.proofs.Plays.{Kept, kept-played}
 use Rattle.log.proofs.Takes.{Fits, fits-marked}
 

@@ -1,4 +1,3 @@
-pub mod Left
 pub mod Takes
 pub mod Tells
 pub mod Keeps

@@ -22,7 +22,7 @@ use Rattle.log_text.specs.Text.{refusalText}
 use Rattle.log.specs.Events.{Event, completed, refusal, writeEvents, afterWrites, eventsFrom, afterLines, eventsOf, unitAfter}
 use Rattle.log.specs.Texts.{shown, headLine, replayText, pictureLines, refusedOr, plateText}
 use Rattle.log.specs.Steps.{Desk, Stepped, begun, pending, stepped, toldBy, eventsOn, isRefused, left, Filling, goesOn, nextBy, next, fills, fill, lastLf, toTell, toEnd, Fit}
-use Rattle.log.specs.declared.Reading.{Reading}
+use Rattle.log_reading.specs.declared.Reading.{Reading}
 use Rattle.log.specs.declared.Told.{Told}
 use Rattle.log.specs.declared.Told.the-variants.{Nothing, Command, Refused}
 use Rattle.log.proofs.Fills.{Tells, fill-tells, fill-ends}

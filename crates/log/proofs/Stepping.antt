@@ -25,7 +25,7 @@ use Rattle.block_writes.specs.Play.{played}
 use Rattle.log.specs.Texts.{shown}
 use Rattle.log.specs.Steps.{Desk, desk, Stepped, answerOf, toldOf, ranOn, playedTo, pending, endedAs, ended, took, tookOn, stepped, holding, withLine, toldBy, ToldFits, eventsOn, isRefused, filledBy, Said}
 use Rattle.block_writes.proofs.Plays.{kept-played}
-use Rattle.log.specs.declared.Reading.{Reading}
+use Rattle.log_reading.specs.declared.Reading.{Reading}
 use Rattle.log.specs.declared.Step.{Step}
 use Rattle.log.specs.declared.Filled.{Filled}
 use Rattle.log.specs.declared.Told.{Told}

@@ -26,7 +26,7 @@ use Rattle.log_line.specs.Calls.{filled}
 use Rattle.log_line.proofs.Splitting.{lines-lf, lines-end, kept-held, took-grown}
 use Rattle.log.specs.Events.{Event, writeEvents, afterWrites, lineEvents, afterLine, eventsFrom, afterLines}
 use Rattle.log.specs.Steps.{Desk, Stepped, pending, endedAs, ended, took, tookOn, holding, withLine, toldBy, eventsOn, toTell, toEnd, Fit}
-use Rattle.log.specs.declared.Reading.{Reading}
+use Rattle.log_reading.specs.declared.Reading.{Reading}
 use Rattle.log.specs.declared.Told.the-variants.{Nothing}
 
 -- ---- a line's meaning: its writes and its screen fit the buffer

@@ -20,7 +20,7 @@ use Rattle.log_line.specs.Lines.{markedFrom, meaningMarked}
 use Rattle.log_line.specs.Split.{heldAs}
 use Rattle.log.specs.Events.{Event, completed, answerEvents, writeEvents, afterWrites, eventsFrom, afterLines}
 use Rattle.log.specs.Steps.{Desk, pending, toldOf, playedTo, ranOn, toldBy, eventsOn, toTell, toEnd, Fit}
-use Rattle.log.specs.declared.Reading.{Reading}
+use Rattle.log_reading.specs.declared.Reading.{Reading}
 
 -- ---- writes that are played
 

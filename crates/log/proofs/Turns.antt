@@ -12,7 +12,7 @@ use Rattle.log.specs.Events.{Event}
 use Rattle.log.specs.Texts.{shownOne, shown}
 use Rattle.log.specs.Steps.{Desk, Stepped, stepped, eventsOn, left, Filling, goesOn, filledBy, nextBy, next, Said, fills, fill, filledTo, Full, Fit}
 use Rattle.log.specs.declared.Filled.{Filled}
-use Rattle.log.specs.declared.Reading.{Reading}
+use Rattle.log_reading.specs.declared.Reading.{Reading}
 use Rattle.log.proofs.Keeps.{Step·Keeps, step-keeps}
 use Rattle.log.proofs.Fills.{goes-left}
 

@@ -15,7 +15,7 @@ use Rattle.log_line.specs.Lines.{markedFrom, lastMarked}
 use Rattle.log_line.specs.Split.{heldAs}
 use Rattle.log.specs.Events.{writeEvents, afterWrites, eventsFrom, afterLines, meanings, eventsOf, unitAfter}
 use Rattle.log.specs.Steps.{Desk, begun, pending, toTell, toEnd}
-use Rattle.log.specs.declared.Reading.{Reading}
+use Rattle.log_reading.specs.declared.Reading.{Reading}
 use Rattle.log_line.proofs.Marked.{marked-meanings}
 use Rattle.log.proofs.Takes.{no-pending}
 

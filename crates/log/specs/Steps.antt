@@ -23,7 +23,8 @@ use Rattle.log_line.specs.Calls.{filled}
 use Rattle.log_line.specs.declared.lines.Held.{Held}
 use Rattle.log.specs.Events.{Event, completed, refusal, writeEvents, afterWrites, eventsFrom, afterLines}
 use Rattle.log.specs.Texts.{shown}
-use Rattle.log.specs.declared.Reading.{Reading}
+use Rattle.log_reading.specs.declared.Reading.{Reading}
+pub use Rattle.log_reading.specs.Point.{begun, left, lastLf}
 use Rattle.log.specs.declared.Filled.{Filled}
 use Rattle.log.specs.declared.Step.{Step}
 use Rattle.log.specs.declared.Told.{Told}
@@ -38,10 +39,6 @@ pub record Desk : Type 0 where
 
 abbrev pub desk : List ℕ → List ℕ → List ℕ → List ℕ → Desk
 desk b l y c = record { block = b; line = l; bytes = y; command = c }
-
--- a reading begins at line 1, with nothing held
-abbrev pub begun : Reading
-begun = record { held = nothing; number = 1; from = 0; upto = 0 }
 
 -- the writes that are still to be played
 unfoldable pub pending : Reading → List ℕ → List ℕ
@@ -140,10 +137,6 @@ isRefused Refused = true
 
 -- ---- steps
 
--- what is left to do, which falls with each step: a line's end may bring as many writes as a screen has bytes
-unfoldable pub left : Reading → ℕ → ℕ → ℕ
-left r size at = (size - at) * (captureBytes + 2) + (r .upto - r .from)
-
 -- where a fill stands: the reading, how far the chunk is used up, whether the last step refused a line, the buffers, and all that was told
 pub record Filling : Type 0 where
   pub reading : Reading
@@ -195,12 +188,6 @@ pub record Full (r : Reading) (d : Desk) (chunk : List ℕ) (at : ℕ) (out : Li
   pub lends : e ≡ fill (length out) r d chunk at .desk
   pub fits : g .size ≤ length out
   pub tells : out′ ≡ over 0 (length (shown (fill (length out) r d chunk at .events))) (shown (fill (length out) r d chunk at .events)) out
-
--- ---- the end of the input
-
--- a last line that lacks its LF gets it: the bytes to feed when the input has ended
-unfoldable pub lastLf : Reading → List ℕ
-lastLf r = cond (r .held .long) (10 ∷ []) (cond (ltb 0 (r .held .size)) (10 ∷ []) [])
 
 -- ---- what the steps require, and keep
 

@@ -10,7 +10,7 @@ ghost use Rattle.parts.specs.Parts.{captureBytes, storeBytes};
 ghost use Rattle.layout.specs.Valid.{Valid};
 ghost use Rattle.log_text.specs.Text.{hexLine, rowLine};
 ghost use Rattle.log_line.specs.Line.{lineDigits};
-ghost use Rattle.log.specs.Steps.{begun, left, fill, desk, toldOf, ranOn, answerOf, ended, stepped, Fit, goesOn, stepRoom, ToldFits, Said, Full, isRefused, toldBy, lastLf, nextLine, most64};
+ghost use Rattle.log.specs.Steps.{fill, desk, toldOf, ranOn, answerOf, ended, stepped, Fit, goesOn, stepRoom, ToldFits, Said, Full, isRefused, toldBy, nextLine, most64};
 ghost use Rattle.layout.specs.Block.{load};
 ghost use Rattle.picture.specs.Picture.{rowOf};
 ghost use Rattle.picture.specs.Tables.{TablesOf};
@@ -23,20 +23,12 @@ use log_line::Line;
 use log_line::lines::Held;
 use log_line::lines::split;
 use log_line::parse;
+use log_reading::Reading;
 use log_text::command_line;
 use log_text::refusal_line;
 
 // The room that the longest text of a step needs: a command of 112 bytes has 225.
 const STEP_ROOM: usize = 256;
-
-// Where a reading stands: the line that is held so far, the number of the next line to end, and the part of the decoded writes that is
-// still to be played.
-pub struct Reading {
-    pub held: Held,
-    pub number: u64,
-    pub from: usize,
-    pub upto: usize,
-}
 
 // What a step has to tell: nothing, a command of so many packets that stands in the buffer, or that the line before the next is refused.
 enum Told {
@@ -58,31 +50,6 @@ pub struct Filled {
     pub at: usize,
     pub size: usize,
     pub refused: bool,
-}
-
-// At line 1, with nothing held.
-pub fn begin() -> Reading
-    ensures { λ r. ⌜ r ≡ begun ⌝ }
-{
-    Reading {
-        held: Held {
-            size: 0,
-            long: false,
-        },
-        number: 1,
-        from: 0,
-        upto: 0,
-    }
-}
-
-// Whether the chunk or the present line holds more.
-pub fn is_left(reading: Reading, size: usize, at: usize) -> bool
-    ensures { λ r. ⌜ r ≡ ltb 0 (left reading size at) ⌝ }
-{
-    if at < size {
-        return true;
-    }
-    reading.from < reading.upto
 }
 
 fn told_of(packets: u8) -> Told
@@ -130,7 +97,7 @@ fn goes_on(so_far: Filled, size: usize, room: usize) -> bool
         return false;
     }
     let reading = so_far.reading;
-    is_left(reading, size, so_far.at)
+    log_reading::is_left(reading, size, so_far.at)
 }
 
 // The text of what a step tells, from `at` on. Answers its length.
@@ -158,20 +125,6 @@ fn tell_command(n: u8, command: &[u8], out: &mut [u8], at: usize) -> usize
 {
     let end = 16 * bits::wide(n);
     command_line(&command[0..end], out, at)
-}
-
-// How many bytes of LF are to be fed when the input has ended: one for a last line that lacks it.
-pub fn last_lf(reading: Reading) -> usize
-    ensures { λ r. ⌜ r ≡ length (lastLf reading) ⌝ }
-{
-    let held = reading.held;
-    if held.long {
-        return 1;
-    }
-    if 0 < held.size {
-        return 1;
-    }
-    0
 }
 
 // The reading behind a line that has ended, with n writes to play.

@@ -16,12 +16,12 @@ use Rattle.log_line.specs.Lines.{markedFrom, lastMarked, meaningMarked}
 use Rattle.log_line.specs.Split.{heldAs}
 use Rattle.log.specs.Events.{Event, lineEvents, eventsFrom, writeEvents, afterWrites}
 use Rattle.log.specs.Steps.{Desk, pending, lastLf, toTell, toEnd, Fit}
-use Rattle.log.specs.declared.Reading.{Reading}
+use Rattle.log_reading.specs.declared.Reading.{Reading}
 use Rattle.log.proofs.Prints.{last-tells, last-ends}
 use Rattle.log.proofs.Whole.{all-told, all-done}
 use Rattle.log_reader.specs.Read.{Behind, Point, tellsFrom, Begins, Goes, Onward, Finished, Cut, Halted, Stands}
-use Rattle.log_reader.specs.declared.State.{State}
-use Rattle.log_reader.specs.declared.State.the-variants.{Well, Failed, Refused}
+use Rattle.log_writer.specs.declared.State.{State}
+use Rattle.log_writer.specs.declared.State.the-variants.{Well, Failed, Refused}
 
 abbrev newline : List ℕ
 newline = 10 ∷ []

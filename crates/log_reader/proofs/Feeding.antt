@@ -15,14 +15,14 @@ use Rattle.log.specs.Events.{Event}
 use Rattle.log.specs.Texts.{shown}
 use Rattle.log.specs.Steps.{Desk, Filling, fill, filledTo, Full, left, stepRoom, toTell, Fit}
 use Rattle.log.specs.declared.Filled.{Filled}
-use Rattle.log.specs.declared.Reading.{Reading}
+use Rattle.log_reading.specs.declared.Reading.{Reading}
 use Rattle.log.proofs.Fills.{Tells, Fill·Keeps, fill-keeps, fill-less}
 use Rattle.log.proofs.Prints.{Shape, fill-on, tells-on, fill-shape}
 use Rattle.log_reader.specs.Fed.{Kept}
 use Rattle.log_reader.specs.Read.{textOf, Unrefused, Stopped, isWell, ToldAs, Point, point, Goes, Onward, Cut, Halted, Stands}
 use Rattle.log_reader.specs.declared.Fed.{Fed}
-use Rattle.log_reader.specs.declared.State.{State}
-use Rattle.log_reader.specs.declared.State.the-variants.{Well, Failed, Refused}
+use Rattle.log_writer.specs.declared.State.{State}
+use Rattle.log_writer.specs.declared.State.the-variants.{Well, Failed, Refused}
 use Rattle.log_reader.proofs.Printing.{text-none, text-quiet, text-lent, printed-on, printed-cut, passed-on, stopped-on, shape-passed, shape-stopped}
 
 pub record Turn (quiet : Bool) (p : Point) (chunk : List ℕ) (q : Point) (at : ℕ) : Type 0 where
@@ -172,16 +172,6 @@ module _ (quiet : Bool) (p q : Point) (chunk : List ℕ) (at : ℕ) (out : List 
           subst⁻¹ (λ (x : State). Standing quiet p chunk (g .at) x (point (g .reading) e t′)) (v .1 .0) (loudly text (text-is text h) t′ y (v .0) (v .1 .1))
 
 -- ---- what `told` answers
-
-pub told-quiet : (quiet refused : Bool) (t : ℕ) (text : List ℕ) (s : State) → quiet ≡ true → s ≡ cond refused Refused Well → ToldAs quiet refused t text s t
-unfolding ToldAs
-told-quiet true refused t text s e h = (h, refl)
-told-quiet false refused t text s e h = absurd (false≢true e)
-
-pub told-loud : (quiet refused : Bool) (t : ℕ) (text : List ℕ) (s : State) (t′ : ℕ) (sent : Bool) → quiet ≡ false → s ≡ cond sent Well Failed → Sent sent t text t′ → ToldAs quiet refused t text s t′
-unfolding ToldAs
-told-loud true refused t text s t′ sent e h k = absurd (false≢true (sym e))
-told-loud false refused t text s t′ sent e h k = (sent, (h, k))
 
 -- ---- where feeding ends
 

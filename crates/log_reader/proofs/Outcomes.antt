@@ -17,13 +17,13 @@ use Rattle.log_text.specs.Text.{refusalText}
 use Rattle.log.specs.Events.{Event, eventsOf, unitAfter}
 use Rattle.log.specs.Texts.{refusedOr, pictureLines, plateText}
 use Rattle.log.specs.Steps.{Desk, desk, begun, toEnd, Fit}
-use Rattle.log.specs.declared.Reading.{Reading}
+use Rattle.log_reading.specs.declared.Reading.{Reading}
 use Rattle.log.proofs.Whole.{begins, begins-end}
 use Rattle.log_reader.specs.Fed.{LentSizes}
 use Rattle.log_reader.specs.Read.{textOf, Unrefused, Behind, readsOn, Point, point, tellsFrom, Begins, Goes, Onward, Finished, Cut, Halted, Stands, Turned, ReadWhole, Reached}
 use Rattle.log_reader.specs.declared.Read.{Read}
-use Rattle.log_reader.specs.declared.State.{State}
-use Rattle.log_reader.specs.declared.State.the-variants.{Well, Failed, Refused}
+use Rattle.log_writer.specs.declared.State.{State}
+use Rattle.log_writer.specs.declared.State.the-variants.{Well, Failed, Refused}
 use Rattle.log_reader.proofs.Printing.{text-quiet, text-append, printed-on, printed-cut, front, passed-on, stopped-on}
 use Rattle.log_reader.proofs.Feeding.{goes-none}
 

@@ -5,7 +5,7 @@ use lib.ListN.{length}
 use Rattle.parts.specs.Parts.{blockBytes, storeBytes, captureBytes}
 use Rattle.log_line.specs.Line.{lineDigits}
 use Rattle.log.specs.Steps.{Desk, Fit}
-use Rattle.log.specs.declared.Reading.{Reading}
+use Rattle.log_reading.specs.declared.Reading.{Reading}
 use Rattle.log_reader.specs.declared.Fed.{Fed}
 
 -- the bytes of a read, and of the text between two writes

@@ -7,15 +7,16 @@ use mathlib.Core.Path.{_≡_}
 use lib.ListN.{length, take}
 use Rattle.layout.specs.Block.{load}
 use Rattle.log_text.specs.Text.{refusalText}
-use Rattle.log_writer.specs.Tally.{tallied, Sent}
+use Rattle.log_writer.specs.Tally.{tallied}
+pub use Rattle.log_writer.specs.Told.{ToldAs}
 use Rattle.log.specs.Events.{Event, eventsOf, unitAfter}
 use Rattle.log.specs.Texts.{shown, refusedOr, pictureLines, plateText}
 use Rattle.log.specs.Steps.{Desk, toTell, toEnd, Fit}
-use Rattle.log.specs.declared.Reading.{Reading}
+use Rattle.log_reading.specs.declared.Reading.{Reading}
 use Rattle.log_reader.specs.Fed.{chunkBytes}
 use Rattle.log_reader.specs.declared.Read.{Read}
-use Rattle.log_reader.specs.declared.State.{State}
-use Rattle.log_reader.specs.declared.State.the-variants.{Well, Failed, Refused}
+use Rattle.log_writer.specs.declared.State.{State}
+use Rattle.log_writer.specs.declared.State.the-variants.{Well, Failed, Refused}
 
 -- ---- what is written, and what may come
 
@@ -46,11 +47,6 @@ isWell Refused = false
 
 abbrev pub readsOn : State → Bool → Bool
 readsOn s ended = cond ended false (isWell s)
-
--- the state behind a fill and its tally: quiet, by whether a line was refused; else by whether the text went out
-unfoldable pub ToldAs : Bool → Bool → ℕ → List ℕ → State → ℕ → Type 0
-ToldAs true refused t text s t′ = (s ≡ cond refused Refused Well) × (t′ ≡ t)
-ToldAs false refused t text s t′ = (sent : Bool) × ((s ≡ cond sent Well Failed) × Sent sent t text t′)
 
 -- ---- from one point of a reading to another
 

@@ -9,24 +9,17 @@ ghost use lib.ListN.{length, take};
 ghost use Rattle.layout.specs.Valid.{Valid};
 ghost use Rattle.log.specs.Steps.{Fit, desk};
 ghost use Rattle.log_reader.specs.Fed.{LentSizes, Kept, chunkBytes, outBytes, mostLines, mostBytes};
-ghost use Rattle.log_reader.specs.Read.{point, isWell, readsOn, ToldAs, Stands, Turned, Reached};
+ghost use Rattle.log_reader.specs.Read.{point, isWell, readsOn, Stands, Turned, Reached};
 use libc::STDERR_FILENO;
 use libc::STDIN_FILENO;
-use log::Reading;
-use log_writer::write_out;
+use log_reading::Reading;
+use log_writer::State;
+use log_writer::told;
 
 // The bytes of a read, and of the text between two writes. Small, since they stand on the stack.
 pub const CHUNK_BYTES: usize = 1024;
 
 pub const OUT_BYTES: usize = 1280;
-
-// All that came is told; a read or a write failed, which has been said; a quiet reading came to a refused line, the one before the
-// reading's next.
-pub enum State {
-    Well,
-    Failed,
-    Refused,
-}
 
 // After a chunk.
 pub struct Fed {
@@ -68,7 +61,7 @@ pub fn read_log(
 {
     block_fresh::post_boot(block);
     let mut read = Read {
-        reading: log::begin(),
+        reading: log_reading::begin(),
         state: State::Well,
         got: 0,
         ended: false,
@@ -164,7 +157,7 @@ fn finish(
 {
     let reading = start.reading;
     let lf = [10u8; 1];
-    let k = log::last_lf(reading);
+    let k = log_reading::last_lf(reading);
     let f = feed(
         reading,
         tally,
@@ -206,7 +199,7 @@ fn feed(
 {
     let mut reading = start;
     let mut at = 0;
-    while log::is_left(reading, chunk.len(), at) {
+    while log_reading::is_left(reading, chunk.len(), at) {
         let f = log::fill(reading, block, line, bytes, command, chunk, at, out);
         let size = f.size;
         at = f.at;
@@ -224,23 +217,6 @@ fn feed(
     Fed {
         reading: reading,
         state: State::Well,
-    }
-}
-
-// How it stands behind a fill: a quiet reading goes on up to a refused line, the other one while its text can be written.
-fn told(tally: &mut u64, text: &[u8], refused: bool, quiet: bool) -> State
-    ensures { λ r. ⌜ ToldAs quiet refused (now (tally .entry)) (now (text .entry)) r (now (tally .exit)) ⌝ }
-{
-    if quiet {
-        if refused {
-            return State::Refused;
-        }
-        return State::Well;
-    }
-    if write_out(tally, text) {
-        State::Well
-    } else {
-        State::Failed
     }
 }
 

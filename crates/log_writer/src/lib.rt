@@ -1,11 +1,37 @@
-// Text written to standard output. What `write` took of it is kept in one lent number, the tally: the kit's contract of `write` says how
+// Text written to standard output, and how a reading stands behind it. What `write` took of it is kept in one lent number, the tally: the kit's contract of `write` says how
 // many bytes it took and nothing of which, so that a contract can name what was printed only by a value that the code carries.
 ghost use mathlib.Core.Path.{_≡_};
 ghost use Prim.Native.Nat.{_≤_};
 ghost use lib.ListN.{length, take};
 ghost use Rattle.log_writer.specs.Tally.{tallied, Sent};
+ghost use Rattle.log_writer.specs.Told.{ToldAs};
 use libc::STDOUT_FILENO;
 use std::num::wrapping_add_u64;
+
+// All that came is told; a read or a write failed, which has been said; a quiet reading came to a refused line, the one before the
+// reading's next.
+pub enum State {
+    Well,
+    Failed,
+    Refused,
+}
+
+// How it stands behind a fill: a quiet reading goes on up to a refused line, the other one while its text can be written.
+pub fn told(tally: &mut u64, text: &[u8], refused: bool, quiet: bool) -> State
+    ensures { λ r. ⌜ ToldAs quiet refused (now (tally .entry)) (now (text .entry)) r (now (tally .exit)) ⌝ }
+{
+    if quiet {
+        if refused {
+            return State::Refused;
+        }
+        return State::Well;
+    }
+    if write_out(tally, text) {
+        State::Well
+    } else {
+        State::Failed
+    }
+}
 
 // Writes all of a text, or as much as can be, and then says that it could not. Answers whether it was all.
 pub fn write_out(tally: &mut u64, text: &[u8]) -> bool

@@ -10,8 +10,8 @@ use Rattle.colour.specs.Entry.{tileOf, paletteOf, flipX, flipY}
 use Rattle.receiver.specs.Count.{codeOf, countOf}
 use Rattle.bits.specs.Tab.{tab, tabFrom}
 use Rattle.attribute_map.specs.Map.{pack, unpack, grid, rowsFrom}
-use Rattle.attributes.specs.Data.{steps}
-use Rattle.attributes.specs.Blk.{onLine, blkPick, blkCell, setAt, blkMap}
+use Rattle.attribute_map.specs.Data.{steps}
+use Rattle.attribute_blocks.specs.Blk.{onLine, blkPick, blkCell, setAt, blkMap}
 use Rattle.commands.specs.Maps.{attrBlk}
 use Rattle.commands.specs.Pads.{mltIndex, mltReq}
 use Rattle.pairs.specs.Table.{table}

@@ -8,10 +8,10 @@ use Rattle.layout.specs.Block.{load}
 use Rattle.log_text.specs.Text.{refusalText}
 use Rattle.log_writer.specs.Tally.{tallied, Sent}
 use Rattle.log.specs.Texts.{pictureLines, plateText}
-use Rattle.log.specs.declared.Reading.{Reading}
+use Rattle.log_reading.specs.declared.Reading.{Reading}
 use Rattle.log_reader.specs.Read.{Behind, textOf, ReadWhole, Reached, Printed}
-use Rattle.log_reader.specs.declared.State.{State}
-use Rattle.log_reader.specs.declared.State.the-variants.{Well, Failed, Refused}
+use Rattle.log_writer.specs.declared.State.{State}
+use Rattle.log_writer.specs.declared.State.the-variants.{Well, Failed, Refused}
 use Rattle.log_reader.proofs.Programs.{behind-all, behind-none, sent-printed, none-printed}
 use Rattle.plate.specs.Closed.{Closed}
 

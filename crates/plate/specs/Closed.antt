@@ -7,9 +7,9 @@ use Rattle.layout.specs.Block.{load}
 use Rattle.log_text.specs.Text.{refusalText}
 use Rattle.log_writer.specs.Tally.{Sent}
 use Rattle.log.specs.Texts.{pictureLines}
-use Rattle.log.specs.declared.Reading.{Reading}
-use Rattle.log_reader.specs.declared.State.{State}
-use Rattle.log_reader.specs.declared.State.the-variants.{Well, Failed, Refused}
+use Rattle.log_reading.specs.declared.Reading.{Reading}
+use Rattle.log_writer.specs.declared.State.{State}
+use Rattle.log_writer.specs.declared.State.the-variants.{Well, Failed, Refused}
 
 unfoldable pub Closed : State → Reading → List ℕ → Bool → ℕ → ℕ → Type 0
 Closed Well r block whole t t′ = Sent whole t (pictureLines (load block)) t′

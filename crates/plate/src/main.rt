@@ -17,7 +17,7 @@ ghost use Rattle.log_reader.specs.Read.{Printed};
 ghost use Rattle.plate.specs.Closed.{Closed};
 use log_reader::Print;
 use log_reader::Read;
-use log_reader::State;
+use log_writer::State;
 
 fn main() {
     let mut tally: u64 = 0;

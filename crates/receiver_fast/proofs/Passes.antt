@@ -1,51 +1,25 @@
--- A run from one place is the run from a later one: by the pulses gathered between, by none, or by one way after the other.
+-- A run from one place is the run from a later one, by the pulses gathered between. And what the stage and the lines are in each way.
 use mathlib.Core.Path.{_≡_, refl, sym, ap, ap₂, _∙_}
 use mathlib.Core.Bool.{Bool, true}
 use mathlib.Core.List.{List}
-use Prim.Native.Nat.{ℕ, suc, _+_, _*_, _%_, _^_, _<_, _≤_}
-use native.Mathlib.Nat.{mul-comm, suc-mul, mul-le-mul-right}
+use Prim.Native.Nat.{ℕ, _+_, _*_, _^_, _<_, _≤_}
 use native.Mathlib.Omega.{arith}
-use lib.ListN.{length, drop}
-use lib.Pow.{pow-add}
+use lib.ListN.{drop}
 use Rattle.receiver.specs.declared.Stage.{Stage}
-use Rattle.receiver.specs.declared.Stage.the-variants.{Idle, Receiving}
+use Rattle.receiver.specs.declared.Stage.the-variants.{Idle, Receiving, Awaiting}
 use Rattle.receiver.specs.declared.Receiver.{Receiver}
 use Rattle.receiver.specs.Port.{Port}
-use Rattle.receiver.specs.Receive.{words, rxOf, Sound}
+use Rattle.receiver.specs.Rises.{rises}
+use Rattle.receiver.specs.Receive.{words, rxOf, Sound, stageNumber}
+use Rattle.receiver.proofs.Rises.{rises-small}
 use Rattle.receiver_run.specs.Run.{runs, portOf}
 use Rattle.receiver_run.specs.declared.Lines.{Lines}
-use Rattle.receiver_fast.specs.declared.gather.Gathered.{Gathered}
-use Rattle.receiver_fast.specs.declared.Fed.{Fed}
-use Rattle.receiver_fast.specs.Fast.{rises, receivingPort, Feeds, Gave, released, Passed}
-use Rattle.receiver_fast.proofs.Rises.{rises-small}
-
--- the loop of `gather`
-pub record Gathering (ws : List ℕ) (from word n ones i : ℕ) : Type 0 where
-  pub place : i ≡ from + 2 * n
-  pub room : from + 128 ≤ length ws
-  pub few : n ≤ 64
-  pub fours : n % 4 ≡ 0
-  pub small : word < 2 ^ n
-  pub ones-few : ones ≤ n
-  pub feeds : Feeds (drop from ws) (drop i ws) n word ones
-
-pub gave : (ws : List ℕ) (from : ℕ) (g : Gathered) → Gathering ws from (g .word) (g .count) (g .ones) (g .at) → Gave ws from g
-gave ws from g G =
-    record {
-      place = G .place;
-      within = omega (arith, G .place, G .room, G .few);
-      few = G .few;
-      small = G .small;
-      feeds = G .feeds;
-    }
-
--- two parts of a number
-pub stack : (p w b n : ℕ) → p < 2 ^ b → w < 2 ^ n → p + w * 2 ^ b < 2 ^ (b + n)
-stack p w b n h k =
-    let e : 2 ^ (b + n) ≡ 2 ^ n * 2 ^ b = pow-add 2 b n ∙ mul-comm (2 ^ b) (2 ^ n) in
-    let m : suc w * 2 ^ b ≤ 2 ^ n * 2 ^ b = mul-le-mul-right (2 ^ b) k in
-    let d : suc w * 2 ^ b ≡ w * 2 ^ b + 2 ^ b = suc-mul w (2 ^ b) in
-    omega arith
+use Rattle.receiver_gather.specs.declared.Gathered.{Gathered}
+use Rattle.receiver_polling.specs.declared.Fed.{Fed}
+use Rattle.receiver_gather.specs.Words.{receivingPort, Feeds, Gave}
+use Rattle.receiver_gather.proofs.Gathers.{stack}
+use Rattle.receiver_polling.specs.Passing.{Passed}
+use Rattle.receiver_fast.specs.Fast.{released}
 
 -- a word of pulses joins a receiver that has B bits, of the value P
 module _ (mask from index idx B P : ℕ) (rx : Receiver) (ws : List ℕ) (g : Gathered) (qb ql qh : ℕ)
@@ -94,22 +68,16 @@ module _ (mask from index idx B P : ℕ) (rx : Receiver) (ws : List ℕ) (g : Ga
         same = join-same;
       }
 
--- nothing is taken; one way after the other
-pub stay : (mask from : ℕ) (rx : Receiver) (l : Lines) (ws : List ℕ) → from ≤ length ws → Sound (rxOf rx) → l .index < 255
-    → Passed mask from rx l ws (record { rx = rx; lines = l; at = from })
-stay mask from rx l ws h s k = record { onto = omega arith; within = h; kept = refl; sound = s; few = k; same = λ s. refl }
+-- the stage by its number
+pub receives : (t : Stage) → stageNumber t ≡ 1 → t ≡ Receiving
+unfolding stageNumber
+receives Idle e = absurd (omega arith)
+receives Receiving e = refl
+receives Awaiting e = absurd (omega arith)
 
-pub then : (mask from : ℕ) (rx : Receiver) (l : Lines) (ws : List ℕ) (f g : Fed)
-    → Passed mask from rx l ws f → Passed mask (f .at) (f .rx) (f .lines) ws g → Passed mask from rx l ws g
-then mask from rx l ws f g a b =
-    record {
-      onto = omega (arith, a .onto, b .onto);
-      within = b .within;
-      kept = b .kept ∙ a .kept;
-      sound = b .sound;
-      few = b .few;
-      same = λ (s : List ℕ). a .same s ∙ b .same s;
-    }
+pub waits : (t : Stage) → (stageNumber t ≡ 1 → ⊥) → t ≡ Receiving → ⊥
+unfolding stageNumber
+waits t f e = f (ap stageNumber e)
 
 -- both lines high
 pub are-released : (l : Lines) → l .both ≡ true → l .p15 ≡ true → l ≡ released (l .index)

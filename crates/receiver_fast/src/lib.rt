@@ -1,35 +1,25 @@
 // `receiver_run::run` with the same contract, word for word, and whole words of data pulses at once; while no packet is coming in it looks for
-// the next start pulse alone. Next door: the words (`gather`), the wait (`polling`). The figures are in docs/BENCH.md.
+// the next start pulse alone. Below it: the words (the crate `receiver_gather`), the wait (`receiver_polling`). The figures are in docs/BENCH.md.
 ghost use mathlib.Core.Path.{_≡_};
 ghost use Prim.Native.Nat.{_<_, _≤_};
 ghost use lib.ListN.{length};
 ghost use Rattle.receiver.specs.Receive.{rxOf, Sound};
 ghost use Rattle.receiver.specs.declared.Stage.the-variants.{Receiving};
 ghost use Rattle.receiver_run.specs.Run.{runs, portOf, endedOf, Ready};
-ghost use Rattle.receiver_fast.specs.Fast.{linesAfter, released, Passed};
+ghost use Rattle.receiver_polling.specs.Passing.{Passed};
+ghost use Rattle.receiver_fast.specs.Fast.{released};
 use bits::eight;
-use gather::gather;
-use polling::index_rises;
-use polling::wait;
 use receiver::Receiver;
 use receiver::Stage;
-use receiver::lines::both_high;
-use receiver::lines::index_after;
-use receiver::lines::p15_high;
 use receiver::stage_number;
 use receiver::store::file;
+use receiver_gather::gather;
+use receiver_polling::Fed;
+use receiver_polling::after;
+use receiver_polling::index_rises;
+use receiver_polling::wait;
 use receiver_run::Lines;
 use receiver_run::Ran;
-
-pub mod gather;
-pub mod polling;
-
-// A receiver further on, with the lines and the place.
-pub struct Fed {
-    pub rx: Receiver,
-    pub lines: Lines,
-    pub at: usize,
-}
 
 // Runs the writes until a command completes or they end.
 pub fn run_fast(start: Receiver, lines: Lines, mask: u8, writes: &[u8], store: &mut [u8]) -> Ran
@@ -70,18 +60,6 @@ pub fn run_fast(start: Receiver, lines: Lines, mask: u8, writes: &[u8], store: &
         lines: here,
         at: i,
         packets: 0,
-    }
-}
-
-// The lines and the joypad index after a write.
-pub fn after(lines: Lines, mask: u8, value: u8) -> Lines
-    requires { ⌜ lines .index < 255 ⌝ }
-    ensures { λ r. ⌜ r ≡ linesAfter lines mask value ⌝ }
-{
-    Lines {
-        p15: p15_high(value),
-        both: both_high(value),
-        index: index_after(lines.index, mask, lines.p15, value),
     }
 }
 

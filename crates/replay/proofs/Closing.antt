@@ -13,10 +13,10 @@ use Rattle.log_writer.specs.Tally.{tallied, Sent}
 use Rattle.log_writer.proofs.Tallies.{sent-last}
 use Rattle.log.specs.Events.{eventsOf, unitAfter}
 use Rattle.log.specs.Texts.{shown, headLine, replayText}
-use Rattle.log.specs.declared.Reading.{Reading}
+use Rattle.log_reading.specs.declared.Reading.{Reading}
 use Rattle.log_reader.specs.Read.{Behind, textOf, isWell, Reached, Printed}
-use Rattle.log_reader.specs.declared.State.{State}
-use Rattle.log_reader.specs.declared.State.the-variants.{Well, Failed, Refused}
+use Rattle.log_writer.specs.declared.State.{State}
+use Rattle.log_writer.specs.declared.State.the-variants.{Well, Failed, Refused}
 use Rattle.log_reader.proofs.Programs.{behind-all, sent-printed}
 
 -- where it failed, a beginning went out

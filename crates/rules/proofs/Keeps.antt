@@ -29,7 +29,7 @@ use Rattle.transfer.proofs.Parts.{page-long, border-long}
 use Rattle.parts.specs.Parts.{storeBytes, captureBytes, tilesBytes, halfBytes, borderBytes}
 use Rattle.layout.specs.Good.{Good, GoodPort, GoodGame, GoodSnes, GoodPending}
 use Rattle.layout.specs.Sgb.{Sgb, Game, Snes}
-use Rattle.attributes.specs.Data.{Whole}
+use Rattle.attribute_map.specs.Data.{Whole}
 use Rattle.commands.specs.Command as command
 use Rattle.rules.specs.Carry.{carried}
 use Rattle.rules.specs.Write.{advanced, meant, carries, stepped, written}

@@ -6,7 +6,7 @@ ghost use mathlib.Core.Path.{_≡_};
 ghost use Prim.Native.Nat.{_≤_, _<_};
 ghost use lib.ListN.{length};
 ghost use Rattle.parts.specs.Parts.{palettesBytes, mapBytes, systemBytes, filesBytes};
-ghost use Rattle.attributes.specs.Data.{Whole};
+ghost use Rattle.attribute_map.specs.Data.{Whole};
 ghost use Rattle.commands.specs.Files.{attrSetMap, palSetMap};
 ghost use Rattle.commands.specs.Maps.{attrBlk, attrLin, attrDiv, attrChr};
 ghost use Rattle.palettes.specs.Palettes.{palPair, palSet};

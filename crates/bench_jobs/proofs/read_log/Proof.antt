@@ -8,7 +8,7 @@ use borrow.Author.Needs.{needs}
 use lib.ListN.{length, take, drop}
 use Rattle.log.specs.Steps.{desk, left}
 use Rattle.log_reader.specs.Fed.{outBytes}
-use Rattle.log.specs.declared.Reading.{Reading}
+use Rattle.log_reading.specs.declared.Reading.{Reading}
 use Rattle.bench_jobs.proofs.Chunks.{Within, begun-fit, part-is, within-on, ends-within, left-falls}
 use Rattle.bench_jobs.proofs.read_log.Statement.{statement}
 use Rattle.bench_jobs.proofs.read_log.Tie as tie

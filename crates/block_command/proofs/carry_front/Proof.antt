@@ -4,9 +4,9 @@ use mathlib.Core.Path.{_≡_, _∙_, ap, subst}
 use native.Mathlib.Omega.{arith}
 use borrow.Author.Needs.{needs}
 use lib.ListN.{take}
-use Rattle.attributes.specs.Data.{Whole}
+use Rattle.attribute_map.specs.Data.{Whole}
 use Rattle.commands.specs.Command.{decode}
-use Rattle.block_command.specs.Carrying.{carriedBlock}
+use Rattle.block_plain.specs.Carrying.{carriedBlock}
 use Rattle.block_command.proofs.carry_front.Statement.{statement}
 use Rattle.block_command.proofs.carry_front.Tie as tie
 

@@ -1,8 +1,8 @@
 -- What was decoded says which command it is, and its part carries it out.
 use mathlib.Core.Path.{ap, _∙_}
 use Rattle.commands.specs.Command.{Command}
-use Rattle.block_command.specs.Carrying.{carriedBlock}
-use Rattle.block_command.proofs.Chain.{plain-told, fixed-told, plain-good}
+use Rattle.block_plain.specs.Carrying.{carriedBlock}
+use Rattle.block_command.proofs.Told.{plain-told, fixed-told, plain-good}
 use borrow.Author.Needs.{needs}
 use Rattle.block_command.proofs.carry_out.Statement.{statement}
 use Rattle.block_command.proofs.carry_out.Tie as tie

@@ -1,8 +1,8 @@
 -- Each arm knows which command it is, and its worker does that.
 use mathlib.Core.Path.{_∙_}
 use Rattle.commands.specs.Told.{toldPlain}
-use Rattle.block_command.proofs.Carried.{nothing-done}
-use Rattle.block_command.proofs.Chain.{pair-few, mask-plain}
+use Rattle.block_plain.proofs.Carried.{nothing-done}
+use Rattle.block_command.proofs.Told.{pair-few, mask-plain}
 use borrow.Author.Needs.{needs}
 use Rattle.block_command.proofs.carry_plain.Statement.{statement}
 use Rattle.block_command.proofs.carry_plain.Tie as tie

@@ -6,7 +6,7 @@ use borrow.Author.Tests.{ltb-true, not-true, not-false}
 use lib.ListN.{length}
 use Rattle.log.specs.Steps.{desk, left}
 use Rattle.log_reader.specs.Read.{point}
-use Rattle.log_reader.specs.declared.State.the-variants.{Well}
+use Rattle.log_writer.specs.declared.State.the-variants.{Well}
 use Rattle.log_reader.proofs.Feeding.{Turn, starts, told-turn, filled-kept, filled-less, stands-well, stands-ill, turn-whole, turn-kept}
 use Rattle.log_reader.proofs.feed.Statement.{statement}
 use Rattle.log_reader.proofs.feed.Tie as tie

@@ -7,7 +7,7 @@ use borrow.Author.Tests.{not-true, not-false}
 use native.Mathlib.Omega.{arith}
 use lib.ListN.{length}
 use Rattle.log.specs.Steps.{begun, desk}
-use Rattle.log.specs.declared.Reading.{Reading}
+use Rattle.log_reading.specs.declared.Reading.{Reading}
 use Rattle.log_reader.specs.Fed.{LentSizes, chunkBytes, outBytes, mostBytes}
 use Rattle.log_reader.specs.Read.{point}
 use Rattle.log_reader.proofs.Outcomes.{SoFar, so-far-none, so-far-on, so-far-ends, so-far-stops, boot-fit, sized-kept}

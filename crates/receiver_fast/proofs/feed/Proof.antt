@@ -5,7 +5,8 @@ use Prim.Native.Nat.{_+_}
 use native.Mathlib.Omega.{arith}
 use Rattle.receiver.specs.Receive.{words}
 use Rattle.receiver_fast.specs.Fast.{released}
-use Rattle.receiver_fast.proofs.Passes.{join, stay}
+use Rattle.receiver_polling.proofs.Strides.{stay}
+use Rattle.receiver_fast.proofs.Passes.{join}
 use Rattle.receiver_fast.proofs.feed.Statement.{statement}
 use Rattle.receiver_fast.proofs.feed.Tie as tie
 

@@ -2,7 +2,7 @@
 use borrow.Author.Needs.{needs}
 use mathlib.Core.Path.{subst⁻¹}
 use Rattle.receiver_run.specs.declared.Lines.{Lines}
-use Rattle.receiver_fast.specs.Fast.{Passed}
+use Rattle.receiver_polling.specs.Passing.{Passed}
 use Rattle.receiver_fast.proofs.Passes.{are-released}
 use Rattle.receiver_fast.proofs.feed_on.Statement.{statement}
 use Rattle.receiver_fast.proofs.feed_on.Tie as tie

@@ -10,7 +10,7 @@ use Rattle.receiver.proofs.Sound.{has-place}
 use Rattle.receiver_run.specs.Run.{lined, runs, portOf, Ready}
 use Rattle.receiver_run.specs.declared.Lines.{Lines}
 use Rattle.receiver_run.proofs.Turns.{ready-lined, same-port, same-count, goes-on, ends-with, at-end}
-use Rattle.receiver_fast.specs.Fast.{linesAfter}
+use Rattle.receiver_polling.specs.Passing.{linesAfter}
 use Rattle.receiver_fast.proofs.run_fast.Statement.{statement}
 use Rattle.receiver_fast.proofs.run_fast.Tie as tie
 

@@ -1,7 +1,7 @@
 -- By the stage: a word of a packet, or the wait.
 use borrow.Author.Needs.{needs}
 use mathlib.Core.Path.{sym, _∙_}
-use Rattle.receiver_fast.proofs.Waits.{receives, waits}
+use Rattle.receiver_fast.proofs.Passes.{receives, waits}
 use Rattle.receiver_fast.proofs.skip.Statement.{statement}
 use Rattle.receiver_fast.proofs.skip.Tie as tie
 

@@ -4,9 +4,9 @@ use Prim.Native.Nat.{_≤_, _+_, _-_}
 use native.Mathlib.Omega.{arith}
 use borrow.Author.Needs.{needs}
 use lib.ListN.{length, getD}
-use Rattle.attributes.specs.Data.{changed, steps}
+use Rattle.attribute_map.specs.Data.{changed, steps}
 use Rattle.attributes.specs.Lin.{linCell, linMap}
-use Rattle.attributes.proofs.Steps.{After, after-none, after-more}
+use Rattle.attribute_map.proofs.Steps.{After, after-none, after-more}
 use Rattle.attributes.proofs.lin.attr_lin.Statement.{statement}
 use Rattle.attributes.proofs.lin.attr_lin.Tie as tie
 

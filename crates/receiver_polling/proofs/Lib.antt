@@ -1,0 +1,4 @@
+pub mod Bytes
+pub mod Polls
+pub mod Strides
+pub mod Waits
