@@ -1,5 +1,4 @@
 pub mod Determined
-pub mod Eights
 pub mod Every
 pub mod Folds
 pub mod Masks

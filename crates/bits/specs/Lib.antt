@@ -1,7 +1,6 @@
 pub mod Answer
 pub mod Bit
 pub mod Determined
-pub mod Eight
 pub mod Over
 pub mod Paint
 pub mod Pair

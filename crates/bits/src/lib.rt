@@ -1,10 +1,9 @@
-// The leaves that every other crate stands on: words, eight bytes as one, packed pairs, plane bytes, copying into a part, a test for zeros.
+// The leaves that every other crate stands on: words, packed pairs, plane bytes, copying into a part, a test for zeros.
 // By shifts and masks (docs/DECISIONS.md, Leaves over bytes). The meaning is in specs/, the laws in proofs/.
 ghost use mathlib.Core.Path.{_≡_};
 ghost use Prim.Native.Nat.{_+_, _<_, _≤_};
 ghost use lib.ListN.{length, replicate};
 ghost use Rattle.bits.specs.Word.{word, lowByte, highByte};
-ghost use Rattle.bits.specs.Eight.{eightAt};
 ghost use Rattle.bits.specs.Pair.{pairOf};
 ghost use Rattle.bits.specs.Plane.{nibbleOf, planeOf};
 ghost use Rattle.bits.specs.Over.{over};
@@ -34,21 +33,6 @@ pub fn high_byte(w: u16) -> u8
     ensures { λ r. ⌜ r ≡ highByte w ⌝ }
 {
     (w >> 8) as u8
-}
-
-// The eight bytes from `at` on as one number, the first one lowest. In this flat form they become one load; as a loop they were eight.
-pub fn eight(s: &[u8], at: usize) -> u64
-    requires { ⌜ at + 8 ≤ length (now s) ⌝ }
-    ensures { λ r. ⌜ r ≡ eightAt (now (s .entry)) at ⌝ }
-{
-    (wide(s[at])
-        | wide(s[at + 1]) << 8
-        | wide(s[at + 2]) << 16
-        | wide(s[at + 3]) << 24
-        | wide(s[at + 4]) << 32
-        | wide(s[at + 5]) << 40
-        | wide(s[at + 6]) << 48
-        | wide(s[at + 7]) << 56) as u64
 }
 
 // Pair j of a packed byte, the first in the high bits.

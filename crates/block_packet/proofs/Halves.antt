@@ -8,9 +8,9 @@ use native.Mathlib.Omega.{arith}
 use lib.Bits.{bitAnd, and-mask}
 use lib.ListN.{length, take, drop, getD, set, length-append}
 use lib.Seq.{drop-cons, take-add, drop-drop, take-at, drop-at, length-take-le}
-use Rattle.bits.specs.Eight.{eightAt}
+use Rattle.bits_eight.specs.Eight.{eightAt}
 use Rattle.bits.specs.Over.{part, over}
-use Rattle.bits.proofs.Eights.{store-eight}
+use Rattle.bits_eight.proofs.Eights.{store-eight}
 use Rattle.bits.proofs.Overs.{length-part}
 use Rattle.layout.specs.Block.{valueOf}
 use Rattle.receiver.specs.Receive.{words}

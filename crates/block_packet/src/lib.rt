@@ -6,7 +6,7 @@ ghost use lib.ListN.{length};
 ghost use Rattle.bits.specs.Over.{part, over};
 ghost use Rattle.layout.specs.Block.{valueOf};
 ghost use Rattle.receiver.specs.Store.{bytesOf};
-use bits::eight;
+use bits_eight::eight;
 
 // Half a packet: the eight bytes from `at` on as a word.
 pub fn half(bytes: &[u8], at: usize) -> u64

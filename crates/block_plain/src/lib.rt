@@ -1,5 +1,5 @@
-// What a plain command does to the block: it gets its part, and what else it changes there is set. The rule is `plainly` of the crate `rules`;
-// what each command computes is in the crates `palettes`, `attributes` and `commands`. The fixed commands are in the crate `block_fixed`.
+// What a plain command does to the block: it gets its part, and what else it changes there is set. The rule is `plainly` of the crate
+// `rules`; what each command computes is in the crates `palettes` and `commands`. The fixed commands are in the crate `block_fixed`.
 // Every worker of a command requires a valid block and leaves one.
 ghost use mathlib.Core.Path.{_≡_};
 ghost use Prim.Native.Nat.{_<_};

@@ -39,12 +39,9 @@ module _ (index mask v : ℕ) where
   index-stays-low was e = rw e
 
 -- the index after P15 rose, by a release (30 hex), with the masks of one, two and four pads, and with mask 2: from the last pad on to the first
-abbrev risen : ℕ → ℕ → ℕ
-risen index mask = indexed index mask false 0x30
-
-pub index-by-mask : (risen 0 0 ≡ 0) × (risen 0 1 ≡ 1) × (risen 1 1 ≡ 0)
-    × (risen 0 3 ≡ 1) × (risen 1 3 ≡ 2) × (risen 2 3 ≡ 3) × (risen 3 3 ≡ 0)
-    × (risen 0 2 ≡ 0) × (risen 2 2 ≡ 2)
+pub index-by-mask : (indexed 0 0 false 0x30 ≡ 0) × (indexed 0 1 false 0x30 ≡ 1) × (indexed 1 1 false 0x30 ≡ 0)
+    × (indexed 0 3 false 0x30 ≡ 1) × (indexed 1 3 false 0x30 ≡ 2) × (indexed 2 3 false 0x30 ≡ 3) × (indexed 3 3 false 0x30 ≡ 0)
+    × (indexed 0 2 false 0x30 ≡ 0) × (indexed 2 2 false 0x30 ≡ 2)
 unfolding indexed p15High bitOf
 index-by-mask = (refl, refl, refl, refl, refl, refl, refl, refl, refl)
 

@@ -1,5 +1,5 @@
 // `receiver_run::run` with the same contract, word for word, and whole words of data pulses at once; while no packet is coming in it looks for
-// the next start pulse alone. Below it: the words (the crate `receiver_gather`), the wait (`receiver_polling`). The figures are in docs/BENCH.md.
+// the next start pulse alone. Below it are the words (`receiver_gather`) and the wait (`receiver_polling`). The figures are in docs/BENCH.md.
 ghost use mathlib.Core.Path.{_≡_};
 ghost use Prim.Native.Nat.{_<_, _≤_};
 ghost use lib.ListN.{length};
@@ -8,7 +8,7 @@ ghost use Rattle.receiver.specs.declared.Stage.the-variants.{Receiving};
 ghost use Rattle.receiver_run.specs.Run.{runs, portOf, endedOf, Ready};
 ghost use Rattle.receiver_polling.specs.Passing.{Passed};
 ghost use Rattle.receiver_fast.specs.Fast.{released};
-use bits::eight;
+use bits_eight::eight;
 use receiver::Receiver;
 use receiver::Stage;
 use receiver::stage_number;

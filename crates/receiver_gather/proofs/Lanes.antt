@@ -10,7 +10,7 @@ use lib.Dec.{lit<}
 use lib.ListN.{length, getD, drop}
 use lib.Bits.{bitAnd, bitOr, and-mask, and-high, and-block, or-shifted-r}
 use lib.Pow.{shl-exact}
-use Rattle.bits.specs.Eight.{eightAt}
+use Rattle.bits_eight.specs.Eight.{eightAt}
 use Rattle.bits.proofs.Folds.{Folds, folded}
 use Rattle.receiver_gather.specs.Words.{Feeds}
 use Rattle.receiver_gather.proofs.Feeds.{feeds-none, feeds-one, feeds-then}

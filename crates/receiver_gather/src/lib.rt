@@ -2,7 +2,7 @@
 ghost use Prim.Native.Nat.{_≤_};
 ghost use lib.ListN.{length};
 ghost use Rattle.receiver_gather.specs.Words.{Gave};
-use bits::eight;
+use bits_eight::eight;
 
 // Pulses that were taken: their bits as a number, how many, the ones among them, and the place after them.
 pub struct Gathered {

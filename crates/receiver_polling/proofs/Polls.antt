@@ -10,7 +10,7 @@ use lib.Dec.{lit<}
 use lib.Bits.{bitAnd}
 use lib.ListN.{length, getD, drop}
 use lib.Seq.{drop-cons}
-use Rattle.bits.specs.Eight.{eightAt}
+use Rattle.bits_eight.specs.Eight.{eightAt}
 use Rattle.receiver.specs.declared.Stage.the-variants.{Receiving}
 use Rattle.receiver.specs.declared.Receiver.{Receiver}
 use Rattle.receiver.specs.Lines.{p15High, bothHigh, indexed}

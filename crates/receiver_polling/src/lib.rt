@@ -8,7 +8,7 @@ ghost use Rattle.receiver.specs.Receive.{rxOf, Sound};
 ghost use Rattle.receiver.specs.declared.Stage.the-variants.{Receiving};
 ghost use Rattle.receiver.specs.Rises.{rises};
 ghost use Rattle.receiver_polling.specs.Passing.{linesAfter, Passed};
-use bits::eight;
+use bits_eight::eight;
 use receiver::Receiver;
 use receiver::lines::both_high;
 use receiver::lines::index_after;

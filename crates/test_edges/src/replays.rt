@@ -4,6 +4,7 @@ ghost use mathlib.Core.Path.{_≡_};
 ghost use Rattle.parts.specs.Parts.{blockBytes};
 ghost use lib.ListN.{length};
 use crate::text;
+use unit::Played;
 use unit::Written;
 
 pub fn examples(block: &mut [u8])
@@ -18,6 +19,11 @@ pub fn examples(block: &mut [u8])
         &[0xB9, 0x02, 0, 0, 0, 0, 0, 0, 0, 0, 0, 0, 0, 0, 0, 0],
         block,
     );
+    // the same in one call: 259 writes are taken, and the release behind the stop pulse is left
+    played(
+        &[0xB9, 0x02, 0, 0, 0, 0, 0, 0, 0, 0, 0, 0, 0, 0, 0, 0],
+        block,
+    );
 }
 
 // A command of one packet, sent by its pulses.
@@ -27,6 +33,28 @@ pub fn command(d: &[u8], block: &mut [u8])
     let mut pulses = [0u8; 260];
     pulses::encode(d, &mut pulses);
     replay(&pulses, block);
+}
+
+// A command of one packet by writes in a row: how many were taken, the command, and the block's first 13 bytes.
+fn played(d: &[u8], block: &mut [u8])
+    requires { ⌜ length (now block) ≡ blockBytes ⌝ }
+{
+    unit::post_boot(block);
+    let mut pulses = [0u8; 260];
+    pulses::encode(d, &mut pulses);
+    let mut command = [0u8; parts::STORE_BYTES];
+    let told = unit::play(block, &pulses, &mut command);
+    counted(told, &command);
+    text::line(&block[0..13]);
+}
+
+fn counted(told: Played, command: &[u8]) {
+    let Played::Command(at, n) = told else {
+        return;
+    };
+    let number = [(at / 256 % 256) as u8, (at % 256) as u8];
+    text::line(&number);
+    show(Written::Command(n), command);
 }
 
 fn replay(writes: &[u8], block: &mut [u8])

@@ -11,6 +11,8 @@ use lib.Seq.{take-all}
 use Rattle.parts.specs.Parts.{storeBytes}
 use Rattle.bits.specs.Bit.{bitOf}
 use Rattle.receiver.specs.Lines.{p15High, indexed}
+use Rattle.receiver.specs.Rises.{rises}
+use Rattle.receiver.proofs.Rises.{rises-add}
 use Rattle.receiver.specs.Port.{Port, Heard, told, heard, answered, wrote}
 use Rattle.pulses.specs.Answer.{given}
 use Rattle.pulses.specs.Bytes.{Bytes, packetsIn, malformed}
@@ -36,7 +38,7 @@ use Rattle.order.proofs.BlockOrder.{saved, calls-saved, run-good}
 use Rattle.block_port.specs.Bytes.{handed, packetsTold}
 use Rattle.unit.specs.Calls.{packetsAnswered}
 use Rattle.unit.specs.Together.{Reply, commandHeld, Performed, performed, repliesOf, bufferAfter, performedBy}
-use Rattle.unit.specs.Trip.{ones, risesIn, risen, sentTo, returned}
+use Rattle.unit.specs.Trip.{ones, risesIn, sentTo, returned}
 use Rattle.unit.proofs.Allowed.{Allowed, allowed-performed}
 use Rattle.unit.proofs.Together.{performed-calls, replies-commands}
 
@@ -76,21 +78,14 @@ quiet-run u (v ∷ vs) l e =
 -- ---- the joypad index moves with each packet's start and with each bit that is one
 
 unfoldable raised : ℕ → Game → Game
-raised n g = withPads (risen n (g .pads) (g .index)) (g .pads) g
-
-risen-more : (m n mask index : ℕ) → risen n mask (risen m mask index) ≡ risen (m + n) mask index
-unfolding risen
-risen-more zero n mask index = let e : n ≡ zero + n = omega arith in ap (λ (k : ℕ). risen k mask index) e
-risen-more (suc m) n mask index =
-    let e : suc (m + n) ≡ suc m + n = omega arith in
-    risen-more m n mask _ ∙ ap (λ (k : ℕ). risen k mask index) e
+raised n g = withPads (rises n (g .index) (g .pads)) (g .pads) g
 
 raised-more : (m n : ℕ) (g : Game) → raised n (raised m g) ≡ raised (m + n) g
 unfolding raised withPads
-raised-more m n g = ap (λ (i : ℕ). withPads i (g .pads) g) (risen-more m n (g .pads) (g .index))
+raised-more m n g = ap (λ (i : ℕ). withPads i (g .pads) g) (rises-add n m (g .index) (g .pads))
 
 moved-start : (was : Bool) (rest : List ℕ) (g : Game) → moved was (0x00 ∷ 0x30 ∷ rest) g ≡ moved true rest (raised 1 g)
-unfolding moved raised risen withPads indexed p15High bitOf
+unfolding moved raised rises withPads indexed p15High bitOf
 moved-start was rest g = refl
 
 moved-stop : (rest : List ℕ) (g : Game) → moved true (stop rest) g ≡ moved true rest g
@@ -102,12 +97,12 @@ unfolding moved pulse withPads indexed p15High bitOf
 moved-zero rest g = refl
 
 moved-one : (b : ℕ) (rest : List ℕ) (g : Game) → moved true (pulse (suc b) ∷ 0x30 ∷ rest) g ≡ moved true rest (raised 1 g)
-unfolding moved pulse raised risen withPads indexed p15High bitOf
+unfolding moved pulse raised rises withPads indexed p15High bitOf
 moved-one b rest g = refl
 
 moved-bits : (bs rest : List ℕ) (g : Game) → moved true (sent bs ++ rest) g ≡ moved true rest (raised (ones bs) g)
 unfolding sent ones
-moved-bits [] rest g = unfold raised risen withPads in refl
+moved-bits [] rest g = unfold raised rises withPads in refl
 moved-bits (zero ∷ bs) rest g = moved-zero (sent bs ++ rest) g ∙ moved-bits bs rest g
 moved-bits (suc b ∷ bs) rest g =
     let e : 1 + ones bs ≡ suc (ones bs) = omega arith in

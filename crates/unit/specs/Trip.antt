@@ -4,8 +4,8 @@
 use Prim.Native.Nat.{ℕ, zero, suc, _+_, _-_, _*_}
 use mathlib.Core.List.{List, [], _∷_, _++_}
 use mathlib.Core.Option.{none, some}
-use lib.Bits.{bitAnd}
 use lib.ListN.{length, drop, replicate}
+use Rattle.receiver.specs.Rises.{rises}
 use Rattle.pulses.specs.Answer.{given}
 use Rattle.pulses.specs.Bytes.{packetsIn}
 use Rattle.pulses.specs.Encode.{bitsIn}
@@ -27,18 +27,13 @@ ones (suc b ∷ bs) = suc (ones bs)
 unfoldable pub risesIn : List ℕ → ℕ
 risesIn c = packetsIn c + ones (bitsIn c)
 
--- the index after n rises, each as in a write (`indexed` of the crate `receiver`)
-unfoldable pub risen : ℕ → ℕ → ℕ → ℕ
-risen zero mask index = index
-risen (suc n) mask index = risen n mask (bitAnd (index + 1) mask)
-
 -- ---- the unit
 
 -- the unit after a command: all of its rises come before its last stop pulse, at which it is carried out; then the port is at rest
 unfoldable pub sentTo : Sgb → List ℕ → Sgb
 sentTo u c =
     carried (decode c)
-    (record { port = resting; game = withPads (risen (risesIn c) (u .game .pads) (u .game .index)) (u .game .pads) (u .game); snes = u .snes })
+    (record { port = resting; game = withPads (rises (risesIn c) (u .game .index) (u .game .pads)) (u .game .pads) (u .game); snes = u .snes })
 
 -- ---- the calls
 

@@ -63,7 +63,8 @@ pub fn play(block: &mut [u8], writes: &[u8], command: &mut [u8]) -> Played
     if no != 0 {
         return Played::Refused(no);
     }
-    if command.len() < parts::STORE_BYTES {
+    let room = command.len();
+    if room < parts::STORE_BYTES {
         return Played::Refused(6);
     }
     let most = at_most(writes.len());

@@ -1,6 +1,7 @@
 //! A log of writes on a unit: packets of random data, idle polling, what the sample sends, and lines at random. Ours goes as a log
 //! does, by lines of up to 5,760 writes on a block that is known to be valid. The packets are SOUND, which neither side carries out.
-//! Beside it the plain run, which has the fast one's contract, over a receiver in locals.
+//! Beside it the plain run, which has the fast one's contract, over a receiver in locals; and the public calls, which check the whole block
+//! each time: a write by itself, and writes in a row by `play`, a frame's polling and a packet at a time.
 
 use crate::block;
 use crate::driver::{self, Event};
@@ -20,10 +21,28 @@ unsafe extern "C" {
         command: *mut u8,
         command_len: usize,
     ) -> u64;
+    fn probe_play(
+        block: *mut u8,
+        len: usize,
+        writes: *const u8,
+        writes_len: usize,
+        command: *mut u8,
+        command_len: usize,
+    ) -> usize;
+    fn probe_write_joypad(
+        block: *mut u8,
+        len: usize,
+        value: u8,
+        command: *mut u8,
+        command_len: usize,
+    ) -> u32;
     fn probe_log(fast: u8, log: *const u8, len: usize, store: *mut u8, store_len: usize) -> usize;
 }
 
 const WRITES: usize = 260 * 400;
+/// A game that polls four pads writes so many times a frame.
+const FRAME: usize = 12;
+const PACKET: usize = 260;
 
 pub fn jobs() -> Vec<Job> {
     let mut rng = Rng::new(20261115, "writes");
@@ -42,6 +61,14 @@ pub fn jobs() -> Vec<Job> {
         on_a_block("writes, idle polling", 0.4, polling.clone()),
         on_a_block("writes, the sample's", 0.4, sample),
         on_a_block("writes, random lines", 1.0, noise),
+        by_play(
+            "writes, a packet a public call",
+            0.2,
+            PACKET,
+            packets.clone(),
+        ),
+        by_play("writes, a frame a public call", 2.0, FRAME, polling.clone()),
+        one_by_one("writes, one a public call", 30.0, packets.clone()),
         plain_run("writes, packets, plain run", packets),
         plain_run("writes, idle polling, plain run", polling),
     ]
@@ -81,11 +108,69 @@ fn play(block: &mut [u8], writes: &[u8]) -> usize {
     commands
 }
 
+/// The same by the public call, so many at a time.
+fn play_public(block: &mut [u8], writes: &[u8], size: usize) -> usize {
+    let (mut commands, mut command) = (0, [0; 112]);
+    for piece in writes.chunks(size) {
+        let mut at = 0;
+        while at < piece.len() {
+            let rest = &piece[at..];
+            let told = unsafe {
+                probe_play(
+                    block.as_mut_ptr(),
+                    block.len(),
+                    rest.as_ptr(),
+                    rest.len(),
+                    command.as_mut_ptr(),
+                    command.len(),
+                )
+            };
+            at += told >> 8;
+            commands += usize::from(told & 0xFF != 0);
+        }
+    }
+    commands
+}
+
+fn write_public(block: &mut [u8], writes: &[u8]) -> usize {
+    let mut command = [0; 112];
+    let mut write = |value: u8| unsafe {
+        probe_write_joypad(
+            block.as_mut_ptr(),
+            block.len(),
+            value,
+            command.as_mut_ptr(),
+            command.len(),
+        )
+    };
+    writes.iter().filter(|w| write(**w) != 0).count()
+}
+
 fn on_a_block(name: &'static str, limit: f64, writes: Vec<u8>) -> Job {
+    beside(name, limit, writes, play)
+}
+
+fn by_play(name: &'static str, limit: f64, size: usize, writes: Vec<u8>) -> Job {
+    beside(name, limit, writes, move |block, writes| {
+        play_public(block, writes, size)
+    })
+}
+
+fn one_by_one(name: &'static str, limit: f64, writes: Vec<u8>) -> Job {
+    beside(name, limit, writes, write_public)
+}
+
+/// Our run of the writes on a block, which tells how many commands they completed, beside the Rust's.
+fn beside(
+    name: &'static str,
+    limit: f64,
+    writes: Vec<u8>,
+    run: impl Fn(&mut [u8], &[u8]) -> usize + 'static,
+) -> Job {
     let mut block = block::post_boot();
     let mut unit = Oracle::post_boot();
     let count = writes.iter().filter_map(|w| unit.write(*w)).count();
-    assert_eq!(play(&mut block, &writes), count);
+    assert_eq!(run(&mut block, &writes), count);
     block::difference(&block, &unit.save()).unwrap();
     let writes = Rc::new(writes);
     Job {
@@ -93,7 +178,7 @@ fn on_a_block(name: &'static str, limit: f64, writes: Vec<u8>) -> Job {
         limit,
         port: {
             let writes = writes.clone();
-            Box::new(move || each(1, |_| play(&mut block, &writes)))
+            Box::new(move || each(1, |_| run(&mut block, &writes)))
         },
         rust: Box::new(move || {
             each(1, |_| {

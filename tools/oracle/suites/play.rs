@@ -1,5 +1,5 @@
-//! Lines of writes as a log plays them, in a row over a receiver in locals, with screens between, against the Rust write by write:
-//! where each command completes, the command, and every byte of the block there and at each screen. A long run is mostly this.
+//! Writes in a row by the public call, as a log plays its lines too, with screens between, against the Rust write by write: where each
+//! command completes, the command, and every byte of the block there and at each screen. A long run is mostly this.
 
 use super::unit::streams;
 use crate::block::LEN;
@@ -12,6 +12,20 @@ use crate::valid;
 pub fn run(ctx: &mut Ctx) {
     streams(ctx, 80, generate::transfers, By::Play);
     refusals(ctx);
+    most(ctx);
+}
+
+/// A call takes at most 1,048,576 writes: one fewer, just as many, and more.
+fn most(ctx: &mut Ctx) {
+    const MOST: usize = 1_048_576;
+    for n in [MOST - 1, MOST, MOST + 1, 2 * MOST] {
+        let (mut b, mut out) = (crate::block::post_boot(), marked(COMMAND_LEN));
+        let told = play(&mut b, &vec![0x30; n], &mut out);
+        let due = n.min(MOST) << 8;
+        ctx.check(told == due && b == crate::block::post_boot(), || {
+            format!("play of {n} writes: {told:X}, due {due:X}")
+        });
+    }
 }
 
 /// The export's own refusals, and no write at all: no lent byte changes.

@@ -5,7 +5,7 @@ use native.Mathlib.Omega.{arith}
 use denote.Ref.{now}
 use lib.ListN.{length-set}
 use Rattle.layout.specs.Fresh.{wordBytes}
-use Rattle.bits.proofs.Eights.{store-eight}
+use Rattle.bits_eight.proofs.Eights.{store-eight}
 use Rattle.block_fresh.proofs.put_palette.Statement.{statement}
 use Rattle.block_fresh.proofs.put_palette.Tie as tie
 
