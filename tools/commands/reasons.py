@@ -99,7 +99,7 @@ class Line:
         if kind not in (b"01", b"02"):
             return f"its first byte is {kind.decode().upper()}; writes begin with 01, a screen with 02"
         if kind == b"02" and held != SCREEN:
-            return f"it has a screen of {held:,} bytes; a screen has {SCREEN:,}"
+            return f"it has a screen of {held:,} byte{'s' * (held != 1)}; a screen has {SCREEN:,}"
         if kind == b"01" and held > MOST_WRITES:
             return f"it has {held:,} writes; a line has at most {MOST_WRITES:,}"
         return None

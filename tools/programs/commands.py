@@ -339,6 +339,7 @@ CAUSES = (
     (b"fF", "its first byte is FF; writes begin with 01, a screen with 02"),
     (b"00" * 5761, "its first byte is 00; writes begin with 01, a screen with 02"),
     (b"02", "it has a screen of 0 bytes; a screen has 5,760"),
+    (b"0200", "it has a screen of 1 byte; a screen has 5,760"),
     (b"02" + b"1B" * 5759, "it has a screen of 5,759 bytes; a screen has 5,760"),
     (b"02" + b"1B" * 5761, "it has a screen of 5,761 bytes; a screen has 5,760"),
     (b"01" + b"30" * 5761, "it has 5,761 writes; a line has at most 5,760"),
@@ -423,7 +424,7 @@ def of_paper(t, p):
     known = {cause for _, cause in (*CAUSES, *STARTS, MARKED)}
     for cause in words:
         t.check(f"docs/LOG.md: '{cause}' is what bin/replay says", cause in known)
-    sort = lambda cause: tuple(word for word in cause.replace("tab", "blank").replace("a screen of", "").split() if word.isalpha() and word not in ("the", "byte"))
+    sort = lambda cause: tuple(word for word in cause.replace("tab", "blank").replace("bytes;", "byte").replace("byte;", "byte").split() if word.isalpha() and word not in ("the", "byte"))
     missing = {sort(cause) for cause in known} - {sort(cause) for cause in words}
     t.check("docs/LOG.md: every sort of cause that bin/replay says", not missing, lambda: str(missing))
 

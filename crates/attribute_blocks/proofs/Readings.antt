@@ -1,4 +1,4 @@
--- The rule of ATTR_BLK in sentences, as laws of the definitions: each is a test that comes out one way.
+-- RULES 4.5, ATTR_BLK, as laws of the definitions: each is a test that comes out one way.
 use mathlib.Core.Path.{_≡_, refl}
 use mathlib.Core.Bool.{Bool, true, false, cond, not-eq-not}
 use Prim.Native.Nat.{ℕ, _<_, _≤_}
@@ -46,7 +46,7 @@ module _ (s : BlkSet) (x y : ℕ) where
   unfolding blkCell blkPick
   blk-inside old (a, b, c, d) = rw (lt-ltb (s .x1) x a, lt-ltb x (s .x2) b, lt-ltb (s .y1) y c, lt-ltb y (s .y2) d)
 
-  -- the rest of the closed rectangle is the line
+  -- on the line: within the corners, and not inside
   pub blk-line : (old : ℕ) → Closed → (Inside → ⊥) → blkCell s x y old ≡ onLine (s .control) (s .palettes) old
   unfolding blkCell blkPick
   blk-line old (a, b, c, d) h = rw (inside-not h, le-leb (s .x1) x a, le-leb x (s .x2) b, le-leb (s .y1) y c, le-leb y (s .y2) d)

@@ -11,12 +11,12 @@ use Rattle.attribute_map.specs.Map.{rowsFrom, grid, cell}
 use Rattle.attribute_map.specs.Data.{steps}
 use Rattle.attribute_blocks.specs.Blk.{onLine, blkPick, blkCell, setAt, blkMap}
 
--- one set: control 1, byte 02, corners (3,3) (3,3): that cell only, to 2
+-- one set that is set inside alone, with one corner twice: this cell is its line, and follows the inside
 pub blk-one-cell : (m : List (List ℕ)) → blkMap (0x21 ∷ 1 ∷ 1 ∷ 0x02 ∷ 3 ∷ 3 ∷ 3 ∷ 3 ∷ replicate 8 0) m ≡ grid (λ x y. cond (eqb x 3 && eqb y 3) 2 (cell m x y))
 unfolding blkMap setAt blkCell blkPick onLine bitOf steps grid rowsFrom tab tabFrom
 blk-one-cell m = refl
 
--- control 4, byte 10, x1 5, x2 4: all to 1
+-- one set that is set outside alone, with its corners crossed: every cell is outside
 pub blk-all : (m : List (List ℕ)) → blkMap (0x21 ∷ 1 ∷ 4 ∷ 0x10 ∷ 5 ∷ 0 ∷ 4 ∷ 17 ∷ replicate 8 0) m ≡ grid (λ x y. 1)
 unfolding blkMap setAt blkCell blkPick onLine bitOf steps grid rowsFrom tab tabFrom
 blk-all m = refl

@@ -1,4 +1,4 @@
--- The rule of ATTR_CHR in sentences, as laws of the definitions: each is a test that comes out one way.
+-- RULES 4.8, ATTR_CHR, as laws of the definitions: each is a test that comes out one way.
 use mathlib.Core.Path.{_≡_, refl, _∙_}
 use mathlib.Core.Bool.{true, false}
 use mathlib.Core.List.{List}
@@ -12,7 +12,7 @@ use Rattle.attribute_map.specs.Data.{steps}
 use Rattle.attribute_cells.specs.Chr.{next, placeOf, putAt}
 use Rattle.attribute_cells.specs.declared.Spot.{Spot}
 
--- the step: along rows after x + 1 >= 20 the next row's start, down columns after y + 1 >= 18 the next column's
+-- the step: along a row behind column 19 comes the next row's start, down a column behind row 17 the next column's
 module _ (s : Spot) where
   pub along-next : s .x + 1 < columns → next true s ≡ record { x = s .x + 1; y = s .y }
   unfolding next
@@ -30,7 +30,7 @@ module _ (s : Spot) where
   unfolding next
   down-ends h = rw (le-ltb (s .y + 1) rows h)
 
-  -- places off the map use up a pair
+  -- a place off the map changes no cell, and its pair is used up
   pub off-below : (v : ℕ) (m : List (List ℕ)) → rows ≤ s .y → putAt s v m ≡ m
   unfolding putAt
   off-below v m h = rw (le-ltb (s .y) rows h, and-false (ltb (s .x) columns))

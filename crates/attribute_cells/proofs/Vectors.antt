@@ -9,7 +9,7 @@ use Rattle.attribute_map.specs.Data.{steps}
 use Rattle.attribute_cells.specs.Chr.{next, placeOf, putAt, pairOfData, chrMap}
 use Rattle.attribute_map.proofs.Painting.{stored}
 
--- at (19, 17) of count 2: one cell
+-- two cells from the map's last one on: the second is off the map
 pub chr-one-cell : (m : List (List ℕ)) → chrMap (0x39 ∷ 19 ∷ 17 ∷ 2 ∷ 0 ∷ 0 ∷ 0xF0 ∷ replicate 9 0) m ≡ stored m 19 17 3
 unfolding chrMap placeOf next putAt pairOfData pairOf wordAt word steps
 chr-one-cell m = refl

@@ -1,5 +1,4 @@
--- Worked examples of the attribute commands, computed: those of RULES 10, and one for each rule that they leave out. Where a map `m`
--- stands in one, it holds whatever the map held.
+-- Worked examples of ATTR_LIN and ATTR_DIV, computed. Where a map `m` stands in one, it holds whatever the map held.
 use mathlib.Core.Path.{_≡_, refl}
 use mathlib.Core.Bool.{cond}
 use mathlib.Core.List.{List, _∷_}

@@ -1,7 +1,6 @@
-// A completed command carried out on the block: which part it gets, and what else it changes there.
-// RULES 4; Rust: `dispatch_command`. The rules are `Carry` of the crate `rules`; what each command computes is in the crates
-// `palettes`, `attributes` and `commands`, and what it does to the block in `block_plain` and `block_fixed`. Every worker requires a valid
-// block and leaves one.
+// A completed command carried out on the block: which command it is, and so which worker carries it out.
+// RULES 4; Rust: `dispatch_command`. The rules are `Carry` of the crate `rules`; what a command does to the block is in the crates
+// `block_plain` and `block_fixed`. Every worker requires a valid block and leaves one.
 ghost use mathlib.Core.Path.{_≡_};
 ghost use Prim.Native.Nat.{_*_, _≤_};
 ghost use lib.ListN.{length, take};

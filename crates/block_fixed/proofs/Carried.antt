@@ -1,4 +1,5 @@
--- What each worker leaves is the block after its command: the callee's answer, put into the law of the part that it changes (`Steps`).
+-- What each worker leaves is the block after its command: the callee's answer, put into the law of the part that it changes, here or
+-- in `Steps` of the crate `block_plain`.
 use mathlib.Core.Path.{_≡_, refl, sym, ap, _∙_}
 use mathlib.Core.Bool.{Bool, true, false, cond}
 use mathlib.Core.List.{List}

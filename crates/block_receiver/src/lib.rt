@@ -1,5 +1,5 @@
-// V3 of a block: what the receiver's bytes may be at each of its stages. All of the clauses together are the crate `block_valid`.
-// The meaning is `v3` in the crate `layout`; its sentences are `Valid` in the crate `receiver`.
+// V3 of a block, RULES 1.8: what the receiver's bytes may be at each of its stages. All of the clauses together are the crate `block_valid`.
+// The meaning is `v3` in the crate `layout`; what it says of each stage is `Valid` in the crate `receiver`.
 ghost use mathlib.Core.Path.{_≡_};
 ghost use Prim.Native.Nat.{_^_, _≤_};
 ghost use lib.Dec.{ltb};
@@ -15,7 +15,7 @@ use bits::wide;
 use block_packet::half;
 use receiver::packet_count;
 
-// "Idle: .. Receiving: .. Awaiting: .. No other receiver number."
+// By the receiver's stage, which is 0, 1 or 2.
 pub fn v3(block: &[u8]) -> bool
     requires { ⌜ length (now block) ≡ blockBytes ⌝ }
     ensures { λ r. ⌜ r ≡ spec.v3 (now (block .entry)) ⌝ }
@@ -33,7 +33,7 @@ pub fn v3(block: &[u8]) -> bool
     false
 }
 
-// "Idle: 6, 7, 8 and 16 to 143 zero."
+// An idle receiver holds nothing.
 fn idle(block: &[u8]) -> bool
     requires { ⌜ length (now block) ≡ blockBytes ⌝ }
     ensures { λ r. ⌜ r ≡ v3At Idle (load (now (block .entry)) .port .rx) (load (now (block .entry)) .port .store) ⌝ }
@@ -53,7 +53,7 @@ fn idle(block: &[u8]) -> bool
     all_zero(&block[parts::STORE..parts::PRESET])
 }
 
-// "Receiving: bit index at most 128, packet bits at and past it zero. .. Receiving with received 0: expected 0 and store zero."
+// Up to 128 bits of the packet are in, and none of those to come is set; on the first packet nothing else is held.
 fn receiving(block: &[u8]) -> bool
     requires { ⌜ length (now block) ≡ blockBytes ⌝ }
     ensures { λ r. ⌜ r ≡ v3At Receiving (load (now (block .entry)) .port .rx) (load (now (block .entry)) .port .store) ⌝ }
@@ -78,7 +78,7 @@ fn receiving(block: &[u8]) -> bool
     all_zero(&block[parts::STORE..parts::PRESET])
 }
 
-// "Awaiting: bit index and current packet zero."
+// Between two packets no bit is in.
 fn awaiting(block: &[u8]) -> bool
     requires { ⌜ length (now block) ≡ blockBytes ⌝ }
     ensures { λ r. ⌜ r ≡ v3At Awaiting (load (now (block .entry)) .port .rx) (load (now (block .entry)) .port .store) ⌝ }
@@ -109,7 +109,7 @@ fn clear_from(lo: u64, hi: u64, bits: u8) -> bool
     lo >> bits == 0
 }
 
-// "1 <= received < expected <= 7, expected equals the count of byte 32, store zero past its first 16 times received bytes."
+// Some packets are in and some are due, as the store's first byte counts them, and the store holds no more than those.
 fn some_in(block: &[u8]) -> bool
     requires { ⌜ length (now block) ≡ blockBytes ⌝ }
     ensures { λ r. ⌜ r ≡ later (load (now (block .entry)) .port .rx .expected) (load (now (block .entry)) .port .rx .received) (load (now (block .entry)) .port .store) ⌝ }

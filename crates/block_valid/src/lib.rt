@@ -80,7 +80,7 @@ fn lines_agree(p15: u8, both: u8) -> bool
     if both == 1 { p15 == 1 } else { true }
 }
 
-// "Countdown and kind both 0, or countdown 1 to 3 and kind 0 to 4."
+// Nothing is pending, or one of the five kinds is, with 1, 2 or 3 screens to go.
 pub fn v4(block: &[u8]) -> bool
     requires { ⌜ length (now block) ≡ blockBytes ⌝ }
     ensures { λ r. ⌜ r ≡ spec.v4 (now (block .entry)) ⌝ }

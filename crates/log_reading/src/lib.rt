@@ -1,4 +1,5 @@
-// Where a reading of a log stands: how it begins, whether there is more to do, and what a last line lacks. Its steps are next door, in `log`.
+// Where a reading of a log stands: how it begins, whether there is more to do, and what a last line lacks. Its steps are in the crate
+// `log`.
 ghost use mathlib.Core.Path.{_≡_};
 ghost use lib.Dec.{ltb};
 ghost use lib.ListN.{length};

@@ -1,5 +1,6 @@
-// Text written to standard output, and how a reading stands behind it. What `write` took of it is kept in one lent number, the tally: the kit's contract of `write` says how
-// many bytes it took and nothing of which, so that a contract can name what was printed only by a value that the code carries.
+// Text written to standard output, and how a reading stands behind it. What `write` took is kept in one lent number, the tally: the kit's
+// contract of `write` says how many bytes it took and nothing of which, so that a contract can name what was printed only by a value that
+// the code carries.
 ghost use mathlib.Core.Path.{_≡_};
 ghost use Prim.Native.Nat.{_≤_};
 ghost use lib.ListN.{length, take};

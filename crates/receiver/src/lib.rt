@@ -178,7 +178,7 @@ impl Receiver {
         }
     }
 
-    // One line low after a release, while a packet is coming in: a data bit, and at bit 128 the stop pulse.
+    // One line low after a release, while a packet is coming in: a data bit, or the stop pulse where all 128 are in.
     pub fn clock(self, one: u8) -> Written
         requires { ⌜ Sound (rxOf self) × (one < 2) ⌝ }
         ensures { λ r. ⌜ stepOf r ≡ clocked (rxOf self) one true ⌝ }

@@ -1,5 +1,5 @@
--- What each completed command does to the unit. RULES 4. What a command computes is in the crates `palettes`, `attributes`
--- and `commands`; here stands where it goes. A plain command is not handed `Snes`, which screens change, and a fixed one is:
+-- What each completed command does to the unit. RULES 4. What a command computes is in the crates `palettes` and `commands`;
+-- here stands where it goes. A plain command is not handed `Snes`, which screens change, and a fixed one is:
 -- so a plain command and a screen may come in either order, and a reader sees it from the types.
 use Prim.Native.Nat.{ℕ}
 use mathlib.Core.List.{List}

@@ -1,4 +1,5 @@
-// What the stored rounds send and show (crates/seeds), and the chance that it is made from: tools/oracle/stored.rs runs the Rust on it.
+// What the stored rounds send and show, and the chance that it is made from (the crate `test_seeds`): tools/oracle/stored.rs runs the Rust
+// on it.
 ghost use mathlib.Core.Path.{_≡_};
 ghost use Prim.Native.Nat.{_<_, _≤_};
 ghost use lib.ListN.{length};

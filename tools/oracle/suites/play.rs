@@ -28,7 +28,7 @@ fn most(ctx: &mut Ctx) {
     }
 }
 
-/// The export's own refusals, and no write at all: no lent byte changes.
+/// The call's refusals, and no write at all: no lent byte changes.
 fn refusals(ctx: &mut Ctx) {
     for _ in ctx.rounds(40) {
         for room in [0, COMMAND_LEN - 1, COMMAND_LEN] {
