@@ -67,7 +67,7 @@ pub fn jobs() -> Vec<Job> {
             PACKET,
             packets.clone(),
         ),
-        by_play("writes, a frame a public call", 2.0, FRAME, polling.clone()),
+        by_play("writes, a frame a public call", 3.0, FRAME, polling.clone()),
         one_by_one("writes, one a public call", 30.0, packets.clone()),
         plain_run("writes, packets, plain run", packets),
         plain_run("writes, idle polling, plain run", polling),
