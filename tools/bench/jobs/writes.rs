@@ -84,52 +84,49 @@ fn sample_writes() -> Vec<u8> {
     all
 }
 
-/// All of the writes; how many commands they completed.
-fn play(block: &mut [u8], writes: &[u8]) -> usize {
-    let (mut commands, mut command) = (0, [0; 112]);
-    for line in writes.chunks(5_760) {
+/// So many writes at a time, each call up to the next command: it tells how many it took, and whether one is complete. Gives how many
+/// commands they completed.
+fn by_calls(writes: &[u8], size: usize, mut call: impl FnMut(&[u8]) -> (usize, bool)) -> usize {
+    let mut commands = 0;
+    for piece in writes.chunks(size) {
         let mut at = 0;
-        while at < line.len() {
-            let rest = &line[at..];
-            let told = unsafe {
-                jobs_play(
-                    block.as_mut_ptr(),
-                    block.len(),
-                    rest.as_ptr(),
-                    rest.len(),
-                    command.as_mut_ptr(),
-                    command.len(),
-                )
-            };
-            at += (told & 0xFFFF_FFFF) as usize;
-            commands += usize::from(told >> 56 != 0);
+        while at < piece.len() {
+            let (taken, complete) = call(&piece[at..]);
+            at += taken;
+            commands += usize::from(complete);
         }
     }
     commands
 }
 
-/// The same by the public call, so many at a time.
+/// As a log's lines go.
+fn play(block: &mut [u8], writes: &[u8]) -> usize {
+    let mut command = [0; 112];
+    let (b, n, c, room) = (
+        block.as_mut_ptr(),
+        block.len(),
+        command.as_mut_ptr(),
+        command.len(),
+    );
+    by_calls(writes, 5_760, |rest| {
+        let told = unsafe { jobs_play(b, n, rest.as_ptr(), rest.len(), c, room) };
+        ((told & 0xFFFF_FFFF) as usize, told >> 56 != 0)
+    })
+}
+
+/// By the public call.
 fn play_public(block: &mut [u8], writes: &[u8], size: usize) -> usize {
-    let (mut commands, mut command) = (0, [0; 112]);
-    for piece in writes.chunks(size) {
-        let mut at = 0;
-        while at < piece.len() {
-            let rest = &piece[at..];
-            let told = unsafe {
-                probe_play(
-                    block.as_mut_ptr(),
-                    block.len(),
-                    rest.as_ptr(),
-                    rest.len(),
-                    command.as_mut_ptr(),
-                    command.len(),
-                )
-            };
-            at += told >> 8;
-            commands += usize::from(told & 0xFF != 0);
-        }
-    }
-    commands
+    let mut command = [0; 112];
+    let (b, n, c, room) = (
+        block.as_mut_ptr(),
+        block.len(),
+        command.as_mut_ptr(),
+        command.len(),
+    );
+    by_calls(writes, size, |rest| {
+        let told = unsafe { probe_play(b, n, rest.as_ptr(), rest.len(), c, room) };
+        (told >> 8, told & 0xFF != 0)
+    })
 }
 
 fn write_public(block: &mut [u8], writes: &[u8]) -> usize {
