@@ -1,0 +1,4 @@
+pub mod Lowest
+pub mod Asking
+pub mod Inside
+pub mod Brokens
