@@ -1,0 +1,101 @@
+// Looking for the byte of a block that breaks a rule: the lower of two, zeros that aren't, packet bits past the bit index. What is looked for
+// where is the crate `block_broken`; it is asked only of a block that is not valid, so that a valid one is checked as quickly as without it.
+// The meaning is `Broken` in the crate `broken`.
+ghost use mathlib.Core.Path.{_≡_};
+ghost use Prim.Native.Nat.{_-_, _/_, _^_, _≤_};
+ghost use lib.ListN.{length};
+ghost use Rattle.parts.specs.Parts.{blockBytes, packetAt, packetBytes};
+ghost use Rattle.bits.specs.Over.{part};
+ghost use Rattle.broken.specs.Broken.{asked, byteOf, lower, lowest, zeroFrom, clearFrom};
+ghost use Rattle.block_found.specs.Found.{foundTold, firstSet};
+use bits::all_zero;
+
+// The offset of a byte, or that nothing is broken.
+pub enum Found {
+    Nothing,
+    At(u16),
+}
+
+pub fn unless(holds: bool, at: u16) -> Found
+    ensures { λ r. ⌜ foundTold r ≡ byteOf (asked at holds) ⌝ }
+{
+    if holds { Found::Nothing } else { Found::At(at) }
+}
+
+pub fn lower(a: Found, b: Found) -> Found
+    ensures { λ r. ⌜ foundTold r ≡ lower (foundTold a) (foundTold b) ⌝ }
+{
+    match a {
+        Found::Nothing => b,
+        Found::At(i) => lower_than(i, b),
+    }
+}
+
+fn lower_than(i: u16, b: Found) -> Found
+    ensures { λ r. ⌜ foundTold r ≡ lower (foundTold (Found.At i)) (foundTold b) ⌝ }
+{
+    match b {
+        Found::Nothing => Found::At(i),
+        Found::At(j) => Found::At(if i < j { i } else { j }),
+    }
+}
+
+// How many zeros stand before the first byte that isn't zero, by halves: each look at many bytes at once tells on which side it is, so that
+// all looks together take hardly longer than one at everything.
+pub fn first_set(s: &[u8]) -> usize
+    ensures { λ r. ⌜ r ≡ firstSet (now (s .entry)) ⌝ }
+{
+    let mut from: usize = 0;
+    let mut upto = s.len();
+    while from < upto {
+        let middle = upto - (upto - from) / 2;
+        if all_zero(&s[from..middle]) {
+            from = middle;
+        } else {
+            upto = middle - 1;
+        }
+    }
+    from
+}
+
+// The first byte of a part that isn't zero.
+pub fn set_in(block: &[u8], from: usize, to: usize) -> Found
+    requires { ⌜ (length (now block) ≡ blockBytes) × ((from ≤ to) × (to ≤ blockBytes)) ⌝ }
+    ensures { λ r. ⌜ foundTold r ≡ lowest (zeroFrom from (part from (to - from) (now (block .entry)))) ⌝ }
+{
+    let n = first_set(&block[from..to]);
+    if n < to - from {
+        return Found::At((from + n) as u16);
+    }
+    Found::Nothing
+}
+
+// The first byte of the current packet with a bit at the bit index or past it.
+pub fn bits_past(block: &[u8], index: u8) -> Found
+    requires { ⌜ length (now block) ≡ blockBytes ⌝ }
+    ensures { λ r. ⌜ foundTold r ≡ lowest (clearFrom index packetAt (part packetAt packetBytes (now (block .entry)))) ⌝ }
+{
+    let mut left = index;
+    let mut i: usize = 0;
+    while i < parts::PACKET_BYTES {
+        if shifted(block[parts::PACKET + i], left) != 0 {
+            return Found::At((parts::PACKET + i) as u16);
+        }
+        left = eight_less(left);
+        i += 1;
+    }
+    Found::Nothing
+}
+
+// What is left of a byte behind its first n bits.
+fn shifted(x: u8, n: u8) -> u8
+    ensures { λ r. ⌜ r ≡ x / 2 ^ n ⌝ }
+{
+    if n < 8 { x >> n } else { 0 }
+}
+
+fn eight_less(n: u8) -> u8
+    ensures { λ r. ⌜ r ≡ n - 8 ⌝ }
+{
+    if n < 8 { 0 } else { n - 8 }
+}
