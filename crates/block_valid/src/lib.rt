@@ -74,7 +74,7 @@ pub fn v2(block: &[u8]) -> bool
 }
 
 // Both lines are high only if P15 is.
-fn lines_agree(p15: u8, both: u8) -> bool
+pub fn lines_agree(p15: u8, both: u8) -> bool
     ensures { λ r. ⌜ r ≡ cond (isSet both) (isSet p15) true ⌝ }
 {
     if both == 1 { p15 == 1 } else { true }
@@ -121,7 +121,8 @@ pub fn v6(block: &[u8]) -> bool
     all_zero(&block[parts::FROZEN..parts::TILES])
 }
 
-fn mask_allows(mask: u8, frozen_on: u8) -> bool
+// Whether a mask mode and byte 12 go together.
+pub fn mask_allows(mask: u8, frozen_on: u8) -> bool
     ensures { λ r. ⌜ r ≡ spec.maskAllows mask «frozen_on» ⌝ }
 {
     if mask == 0 {

@@ -38,7 +38,12 @@ none-if-valid b =
       first-none 4 (asks4 b) (asks5 b ∷ asks6 b ∷ []),
       first-none 5 (asks5 b) (asks6 b ∷ []),
       first-none 6 (asks6 b) [],
-      asks1-are b, asks2-are b, asks3-are b, asks4-are b, asks5-are b, asks6-are b
+      asks1-are b,
+      asks2-are b,
+      asks3-are b,
+      asks4-are b,
+      asks5-are b,
+      asks6-are b,
     )
     (last (v1 b) (v2 b) (v3 b) (v4 b) (v5 b) (v6 b))
   where

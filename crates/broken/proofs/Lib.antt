@@ -2,3 +2,4 @@ pub mod Lowest
 pub mod Asking
 pub mod Inside
 pub mod Brokens
+pub mod Numbers

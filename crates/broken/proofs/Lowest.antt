@@ -68,9 +68,10 @@ lowest-found (a ∷ l) = go (a .holds) (lowest l) refl (lowest-found l)
     go true none p f = λ n. ((λ q. absurd (false≢true (sym q ∙ p))), f n)
     go true (some m) p f = (inr (f .0), ((λ q. absurd (false≢true (sym q ∙ p))), f .1))
     go false none p f = (inl (p, refl), ((λ q. omega arith), f (a .at)))
-    go false (some m) p f =
-        (pick m p (f .0) (either-way (leb (a .at) m)),
-          ((λ q. min-le-left (a .at) m), least-below (min (a .at) m) m l (min-le-right (a .at) m) (f .1)))
+    go false (some m) p f = (
+      pick m p (f .0) (either-way (leb (a .at) m)),
+      ((λ q. min-le-left (a .at) m), least-below (min (a .at) m) m l (min-le-right (a .at) m) (f .1)),
+    )
 
 pub lowest-tells : (n : ℕ) (l : List Asked) → lowest l ≡ some n → Tells n l × Least n l
 unfolding Found
@@ -78,7 +79,7 @@ lowest-tells n l e = subst (λ y. Found y l) e (lowest-found l)
 
 -- ---- two lists together
 
-lower-none : (y : Option ℕ) → y ≡ lower y none
+pub lower-none : (y : Option ℕ) → y ≡ lower y none
 unfolding lower
 lower-none none = refl
 lower-none (some n) = refl

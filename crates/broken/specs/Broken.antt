@@ -152,3 +152,18 @@ rules b = asks1 b ∷ asks2 b ∷ asks3 b ∷ asks4 b ∷ asks5 b ∷ asks6 b �
 -- of a block of the right length
 unfoldable pub broken : List ℕ → Option Broken
 broken b = firstOf 1 (rules b)
+
+-- ---- as one number
+
+-- a refusal's number with an offset (RULES 2.1): the number in the low byte, the offset above it
+abbrev pub numbered : ℕ → ℕ → ℕ
+numbered n at = n + 256 * at
+
+unfoldable pub numberOf : ℕ → Option ℕ → ℕ
+numberOf n none = 0
+numberOf n (some at) = numbered n at
+
+-- 20 and the rule, with its byte; 0 where no rule is broken
+unfoldable pub brokenNumber : Option Broken → ℕ
+brokenNumber none = 0
+brokenNumber (some r) = numbered (20 + r .rule) (r .at)

@@ -69,7 +69,7 @@ loop-again c =
     let k : length l ≡ packetBytes = length-part packetAt packetBytes b (omega arith) in
     let z = c .before .if1 .left in
     let next = clear-next (a .left) (packetAt + a .i) (a .i) l (omega arith)
-        (ap (λ x. x / 2 ^ a .left) (getD-part packetAt packetBytes b (a .i) (omega arith)) ∙ sym (c .before .before .shifted .ensures) ∙ z) in
+    (ap (λ x. x / 2 ^ a .left) (getD-part packetAt packetBytes b (a .i) (omega arith)) ∙ sym (c .before .before .shifted .ensures) ∙ z) in
     let s : suc (packetAt + a .i) ≡ packetAt + (a .i + 1) = omega arith in
     let t : suc (a .i) ≡ a .i + 1 = omega arith in
     (omega arith, a .inv .1 ∙ next ∙ (λ v. lowest (clearFrom (sym (c .eight-less .ensures) v) (s v) (drop (t v) l))))
