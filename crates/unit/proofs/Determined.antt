@@ -13,6 +13,10 @@ use Rattle.bits.proofs.Determined.{one, same}
 use Rattle.colour.specs.declared.Rgb555.{Rgb555}
 use Rattle.colour.specs.declared.Rgb8.{Rgb8}
 use Rattle.colour.proofs.Told.{word-of}
+use Rattle.refusal.specs.declared.Refusal.{Refusal}
+use Rattle.refusal.proofs.Told.{refusal-of}
+use Rattle.refusal.proofs.Refusal.number.Reads as refusal-number
+use Rattle.refusal.proofs.Refusal.offset.Reads as refusal-offset
 use Rattle.pulses.specs.declared.Encoded.{Encoded}
 use Rattle.pulses.specs.declared.Conformance.{Conformance}
 use Rattle.pulses.specs.Answer.{Answer, encodedAnswer, verdictAnswer}
@@ -62,7 +66,7 @@ use Rattle.unit.proofs.check.Reads as check
 
 one-written : Once writtenTold
 unfolding writtenTold
-one-written (W.Refused m) (W.Refused n) e = cc
+one-written (W.Refused m) (W.Refused n) e = ap W.Refused (refusal-of m n (cc))
 one-written (W.Refused m) W.Nothing e = cc
 one-written (W.Refused m) (W.Command n) e = cc
 one-written W.Nothing (W.Refused n) e = cc
@@ -80,7 +84,7 @@ packetsIn a = takenOf a .packets
 
 one-played : Once playedTold
 unfolding playedTold takenOf
-one-played (P.Refused m) (P.Refused n) e = cc
+one-played (P.Refused m) (P.Refused n) e = ap P.Refused (refusal-of m n (cc))
 one-played (P.Refused m) (P.Took n) e = cc
 one-played (P.Refused m) (P.Command n k) e = cc
 one-played (P.Took m) (P.Refused n) e = cc
@@ -95,7 +99,7 @@ one-played (P.Command m j) (P.Command n k) e =
 
 one-shown : Once shownTold
 unfolding shownTold
-one-shown (S.Refused m) (S.Refused n) e = cc
+one-shown (S.Refused m) (S.Refused n) e = ap S.Refused (refusal-of m n (cc))
 one-shown (S.Refused m) (S.Took n) e = cc
 one-shown (S.Took m) (S.Refused n) e = cc
 one-shown (S.Took m) (S.Took n) e = ap S.Took (landed-once m n (cc))
@@ -121,11 +125,11 @@ pub post-boot-determined : (k : _) → Determined (ℕ × List ℕ) (post-boot.L
 post-boot-determined k a r s e f p q = λ t. (same r s (p .0) (q .0) t, same _ _ (p .1) (q .1) t)
 
 -- the answer alone: nothing is lent to be written
-pub check-determined : (k : _) → Determined ℕ (check.Learnt k) (λ r e. r)
-check-determined k a r s e f p q = same r s p q
+pub check-determined : (k : _) → Determined Refusal (check.Learnt k) (λ r e. r)
+check-determined k a r s e f p q = one (λ (n : Refusal). n .0) refusal-of r s p q
 
-pub refusal-determined : (k : _) → Determined ℕ (refusal.Learnt k) (λ r e. r)
-refusal-determined k a r s e f p q = same r s p q
+pub refusal-determined : (k : _) → Determined Refusal (refusal.Learnt k) (λ r e. r)
+refusal-determined k a r s e f p q = one (λ (n : Refusal). n .0) refusal-of r s p q
 
 pub mask-mode-determined : (k : _) → Determined Number (mask-mode.Learnt k) (λ r e. r)
 mask-mode-determined k a r s e f p q = one numberTold one-number r s p q
@@ -168,6 +172,13 @@ entry-flip-x-determined k a r s e f p q = same r s p q
 
 pub entry-flip-y-determined : (k : _) → Determined Bool (entry-flip-y.Learnt k) (λ r e. r)
 entry-flip-y-determined k a r s e f p q = same r s p q
+
+-- what a refusal is told by
+pub refusal-number-determined : (k : _) → Determined ℕ (refusal-number.Learnt k) (λ r e. r)
+refusal-number-determined k a r s e f p q = same r s p q
+
+pub refusal-offset-determined : (k : _) → Determined ℕ (refusal-offset.Learnt k) (λ r e. r)
+refusal-offset-determined k a r s e f p q = same r s p q
 
 -- the bytes of the part that is handed back
 pub displayed-screen-determined : (k : _) → Determined (List ℕ) (displayed-screen.Learnt k) (λ r e. now r)

@@ -1,5 +1,5 @@
 -- The public calls that change a block: what each answers, and what it leaves in every lent byte, for all input. RULES 2, 3.9 and 5.1: the
--- tests stand in the order of the numbers, and a refusal leaves every byte as it was. What a call does to a valid block is the rules' (`Write`
+-- tests stand in the order of RULES 2.2, and a refusal leaves every byte as it was. What a call does to a valid block is the rules' (`Write`
 -- and `Screen` of the crate `rules`), read from the block and put back (`load` and `save`).
 use Prim.Native.Nat.{ℕ}
 use mathlib.Core.Bool.{cond}
@@ -18,7 +18,7 @@ use Rattle.block_port.specs.Bytes.{handed, packetsTold}
 use Rattle.view.specs.Refusal.{refusing}
 use Rattle.view.specs.Looks.{leaves}
 
--- ---- with a buffer for the command that a write may complete: refusals 1, 2, 6 (112)
+-- ---- with a buffer for the command that a write may complete: refusals 1, 21 to 26, 6 (112)
 
 -- what a call answers that would answer a
 unfoldable pub withRoom : {A : Type 0} → List ℕ → List ℕ → A → Answer A
@@ -40,7 +40,7 @@ writeBlock b v command = leaves (writeAnswer b v command) (save (written (load b
 unfoldable pub writeCommand : List ℕ → ℕ → List ℕ → List ℕ
 writeCommand b v command = leaves (writeAnswer b v command) (handed (answer (load b) v) command) command
 
--- ---- a screen: refusals 1, 2, 3
+-- ---- a screen: refusals 1, 21 to 26, 3
 
 unfoldable pub screenAnswer : List ℕ → List ℕ → Answer (Option ℕ)
 screenAnswer b x = refusing b (cond (eqb (length x) captureBytes) (given (landedOf (landing (load b .snes)))) (refused 3))

@@ -7,11 +7,12 @@ ghost use Rattle.view.specs.Refusal.{refusalOf};
 ghost use Rattle.unit.specs.Calls.{writeAnswer, writeBlock, writeCommand, screenAnswer, screenBlock, freshAnswer, newBlock, postBootBlock};
 ghost use Rattle.unit.specs.Plays.{playMost, lesser, playAnswer, playBlock, playCommand};
 ghost use Rattle.unit.specs.Answers.{writtenTold, playedTold, packetsIf, shownTold};
+use refusal::Refusal;
 use transfer::pending::Landed;
 
 // What a write answers: a refusal, nothing, or that a command of this many packets stands at the front of the buffer.
 pub enum Written {
-    Refused(u8),
+    Refused(Refusal),
     Nothing,
     Command(u8),
 }
@@ -19,7 +20,7 @@ pub enum Written {
 // What writes in a row answer: a refusal; how many were taken, where none completed a command; or how many were taken and the packets of
 // the command that the last of them completed.
 pub enum Played {
-    Refused(u8),
+    Refused(Refusal),
     Took(usize),
     Command(usize, u8),
 }
@@ -29,7 +30,7 @@ pub const PLAY_MOST: usize = 1048576;
 
 // What a screen answers: a refusal, or what landed.
 pub enum Shown {
-    Refused(u8),
+    Refused(Refusal),
     Took(Landed),
 }
 
@@ -40,11 +41,11 @@ pub fn write_joypad(block: &mut [u8], value: u8, command: &mut [u8]) -> Written
     ensures { λ _. ⌜ now (command .exit) ≡ writeCommand (now (block .entry)) value (now (command .entry)) ⌝ }
 {
     let no = view::refusal(block);
-    if no != 0 {
+    if no.0 != 0 {
         return Written::Refused(no);
     }
     if command.len() < parts::STORE_BYTES {
-        return Written::Refused(6);
+        return Written::Refused(Refusal(6));
     }
     let n = block_writes::write(block, value, command);
     if n == 0 {
@@ -60,12 +61,12 @@ pub fn play(block: &mut [u8], writes: &[u8], command: &mut [u8]) -> Played
     ensures { λ _. ⌜ now (command .exit) ≡ playCommand (now (block .entry)) (now (writes .entry)) (now (command .entry)) ⌝ }
 {
     let no = view::refusal(block);
-    if no != 0 {
+    if no.0 != 0 {
         return Played::Refused(no);
     }
     let room = command.len();
     if room < parts::STORE_BYTES {
-        return Played::Refused(6);
+        return Played::Refused(Refusal(6));
     }
     let most = at_most(writes.len());
     let p = block_writes::play(block, &writes[0..most], command);
@@ -93,11 +94,11 @@ pub fn update_screen(block: &mut [u8], screen: &[u8]) -> Shown
     ensures { λ _. ⌜ now (block .exit) ≡ screenBlock (now (block .entry)) (now (screen .entry)) ⌝ }
 {
     let no = view::refusal(block);
-    if no != 0 {
+    if no.0 != 0 {
         return Shown::Refused(no);
     }
     if screen.len() != parts::CAPTURE_BYTES {
-        return Shown::Refused(3);
+        return Shown::Refused(Refusal(3));
     }
     Shown::Took(block_screen::show(block, screen))
 }
@@ -125,9 +126,9 @@ pub fn post_boot(block: &mut [u8]) -> u8
     0
 }
 
-// A saved block: 1 for another length, 2 if it is not valid, and else 0.
-pub fn check(block: &[u8]) -> u8
-    ensures { λ r. ⌜ r ≡ refusalOf (now (block .entry)) ⌝ }
+// A saved block: 1 for another length; 21 to 26 for the first of V1 to V6 that it breaks, with the byte that breaks it; and else 0.
+pub fn check(block: &[u8]) -> Refusal
+    ensures { λ r. ⌜ r .0 ≡ refusalOf (now (block .entry)) ⌝ }
 {
     view::refusal(block)
 }

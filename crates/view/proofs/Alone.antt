@@ -16,6 +16,7 @@ use Rattle.pulses.specs.Answer.{Answer, refused, given}
 use Rattle.parts.specs.Parts.{blockBytes}
 use Rattle.layout.specs.Block.{load}
 use Rattle.layout.specs.Valid.{valid}
+use Rattle.broken.specs.Broken.{broken, brokenNumber}
 use Rattle.view.specs.Refusal.{refusing}
 use Rattle.block_picture.specs.Drawn.{partsOf, rowDrawn, pictureDrawn}
 use Rattle.view.specs.Looks.{rowAnswer, pictureAnswer, leaves}
@@ -24,13 +25,13 @@ use Rattle.view.proofs.Refusals.{draws}
 -- a call that draws was asked for a row of the picture
 row-inside : (b : List ℕ) (y : ℕ) (out : List ℕ) → given 256 ≡ rowAnswer b y out → y < 224
 unfolding rowAnswer refusing
-row-inside b y out e = go (eqb (length b) blockBytes) (valid b) (ltb y 224) (cond (leb 256 (length out)) (given 256) (refused 6)) refl e
+row-inside b y out e = go (eqb (length b) blockBytes) (valid b) (ltb y 224) (brokenNumber (broken b)) (cond (leb 256 (length out)) (given 256) (refused 6)) refl e
   where
-    go : (s t u : Bool) (a : Answer ℕ) → ltb y 224 ≡ u → given 256 ≡ cond s (cond t (cond u a (refused 4)) (refused 2)) (refused 1) → y < 224
-    go true true true a p h = ltb-true y 224 p
-    go true true false a p h = let z : _≡_ {A = ℕ} 0 1 = cc in absurd (omega arith)
-    go true false u a p h = let z : _≡_ {A = ℕ} 0 1 = cc in absurd (omega arith)
-    go false t u a p h = let z : _≡_ {A = ℕ} 0 1 = cc in absurd (omega arith)
+    go : (s t u : Bool) (n : ℕ) (a : Answer ℕ) → ltb y 224 ≡ u → given 256 ≡ cond s (cond t (cond u a (refused 4)) (refused n)) (refused 1) → y < 224
+    go true true true n a p h = ltb-true y 224 p
+    go true true false n a p h = let z : _≡_ {A = ℕ} 0 1 = cc in absurd (omega arith)
+    go true false u n a p h = let z : _≡_ {A = ℕ} 0 1 = cc in absurd (omega arith)
+    go false t u n a p h = let z : _≡_ {A = ℕ} 0 1 = cc in absurd (omega arith)
 
 -- what is drawn, with whatever stands behind it
 drawn-alone : (p : Parts) (y : ℕ) (o w : List ℕ) → y < 224 → take 256 (rowOf p y ++ o) ≡ take 256 (drop (y * 256) (pictureOf p ++ w))

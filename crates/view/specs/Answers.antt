@@ -1,4 +1,4 @@
--- What each enum that a call here answers stands for: the number of a refusal (RULES 2.1), or the value.
+-- What each enum that a call here answers stands for: a refusal as one number (RULES 2.1), or the value.
 use Prim.Native.Nat.{ℕ}
 use mathlib.Core.Option.{Option, none, some}
 use Rattle.pulses.specs.Answer.{Answer, refused, given}
@@ -12,18 +12,18 @@ use Rattle.view.specs.declared.Border.{Border}
 use Rattle.view.specs.declared.Border.the-variants as B
 
 unfoldable pub numberTold : Number → Answer ℕ
-numberTold (N.Refused n) = refused n
+numberTold (N.Refused r) = refused (r .0)
 numberTold (N.Is v) = given v
 
 unfoldable pub colourTold : Colour → Answer ℕ
-colourTold (C.Refused n) = refused n
+colourTold (C.Refused r) = refused (r .0)
 colourTold (C.Is c) = given (c .0)
 
 unfoldable pub entryTold : Entry → Answer ℕ
-entryTold (E.Refused n) = refused n
+entryTold (E.Refused r) = refused (r .0)
 entryTold (E.Is w) = given (w .0)
 
 unfoldable pub borderTold : Border → Answer (Option ℕ)
-borderTold (B.Refused n) = refused n
+borderTold (B.Refused r) = refused (r .0)
 borderTold B.Transparent = given none
 borderTold (B.Opaque c) = given (some (c .0))

@@ -19,8 +19,8 @@ same-length c = search needs
 returns : tie.Need-returns
 unfolding playedTold playAnswer playBlock playCommand withRoom
 returns c =
-    let start = c .before .before .before .before .before .before .args in
-    room-refused (now (start .block)) (now (start .command)) _ _ _ _ (refuses _ _ _ (c .before .refusal .ensures) (c .if1 .taken))
+    let start = c .before .before .before .before .before .before .before .args in
+    room-refused (now (start .block)) (now (start .command)) _ _ _ _ (refuses _ _ _ (c .before .before .refusal .ensures) (c .if1 .taken))
 
 same-length-2 : tie.Need-same-length-2
 same-length-2 c = search needs
@@ -28,9 +28,9 @@ same-length-2 c = search needs
 returns-2 : tie.Need-returns-2
 unfolding playedTold playAnswer playBlock playCommand
 returns-2 c =
-    let start = c .before .before .before .before .before .before .before .args in
-    let r = c .before .before .refusal in
-    room-short (now (start .block)) (now (start .command)) _ _ _ (accepts _ (r .result) (r .ensures) (c .before .if1 .left)) (c .if2 .taken)
+    let start = c .before .before .before .before .before .before .before .before .args in
+    let r = c .before .before .before .refusal in
+    room-short (now (start .block)) (now (start .command)) _ _ _ (accepts _ (r .result .0) (r .ensures) (c .before .if1 .left)) (c .if2 .taken)
 
 at-most-requires : tie.Need-at-most-requires
 at-most-requires c κs = search needs
@@ -42,12 +42,12 @@ part-play-start : tie.Need-part-play-start
 part-play-start c = search needs
 
 part-play-end : tie.Need-part-play-end
-part-play-end c = most-within (now (c .before .before .before .before .before .before .before .before .before .args .writes)) _ playMost (c .before .at-most .ensures)
+part-play-end c = most-within (now (c .before .before .before .before .before .before .before .before .before .before .args .writes)) _ playMost (c .before .at-most .ensures)
 
 play-requires : tie.Need-play-requires
 play-requires c κs =
-    let r = c .before .before .before .before .before .before .refusal in
-    (accepts _ (r .result) (r .ensures) (c .before .before .before .before .before .if1 .left), c .before .before .before .before .if2 .left)
+    let r = c .before .before .before .before .before .before .before .refusal in
+    (accepts _ (r .result .0) (r .ensures) (c .before .before .before .before .before .if1 .left), c .before .before .before .before .if2 .left)
 
 told-requires : tie.Need-told-requires
 told-requires c κs = search needs
@@ -60,11 +60,11 @@ same-length-4 c = search needs
 
 returns-3 : tie.Need-returns-3
 returns-3 c =
-    let start = c .before .before .before .before .before .before .before .before .before .before .before .before .before .before .before .before .before .args in
-    let r = c .before .before .before .before .before .before .before .before .before .before .before .before .refusal in
+    let start = c .before .before .before .before .before .before .before .before .before .before .before .before .before .before .before .before .before .before .args in
+    let r = c .before .before .before .before .before .before .before .before .before .before .before .before .before .refusal in
     let p = c .before .before .before .before .before .play .ensures in
     play-given (now (start .block)) (now (start .writes)) _ (now (start .command)) _ _ _ _ _
-    (accepts (now (start .block)) (r .result) (r .ensures) (c .before .before .before .before .before .before .before .before .before .before .before .if1 .left))
+    (accepts (now (start .block)) (r .result .0) (r .ensures) (c .before .before .before .before .before .before .before .before .before .before .before .if1 .left))
     (c .before .before .before .before .before .before .before .before .before .before .if2 .left)
     (most-taken (now (start .writes)) _ playMost (c .before .before .before .before .before .before .before .before .before .at-most .ensures))
     (c .told .ensures) (p .0) (p .1 .0) (p .1 .1 .0) (p .1 .1 .1)
