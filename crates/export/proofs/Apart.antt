@@ -1,6 +1,6 @@
--- Different answers give different numbers: what crosses to C tells the answer whole. A refusal's number is from 1 to 7, so it is in the
--- low byte, where a value leaves 0 and "none" is 128.
-use Prim.Native.Nat.{ℕ, zero, suc, _+_, _*_, _/_, _≤_, _<_}
+-- Different answers give different numbers: what crosses to C tells the answer whole. A refusal's number is from 1 to 26 and stands in the
+-- low byte, where a value leaves 0 and "none" is 128; an offset stands above it.
+use Prim.Native.Nat.{ℕ, _+_, _*_, _/_, _%_, _≤_, _<_}
 use native.Mathlib.Omega.{arith}
 use mathlib.Core.Path.{_≡_, refl, sym, ap, _∙_}
 use mathlib.Core.Bool.{Bool, true, false, _&&_, cond}
@@ -18,7 +18,10 @@ use Rattle.pulses.specs.Encode.{encoding, short}
 use Rattle.pulses.specs.Verdict.{judged}
 use Rattle.parts.specs.Parts.{blockBytes, storeBytes, captureBytes}
 use Rattle.layout.specs.Valid.{valid}
+use Rattle.broken.specs.Broken.{broken, brokenNumber}
+use Rattle.broken.proofs.Numbers.{number-read}
 use Rattle.view.specs.Refusal.{refusing}
+use Rattle.view.proofs.Refusals.{parts-broken}
 use Rattle.view.specs.Looks.{modeOf, backdropAnswer, shadeAnswer, entryAnswer, borderAnswer, rowAnswer, pictureAnswer}
 use Rattle.unit.specs.Calls.{packetsAnswered, withRoom, writeAnswer, screenAnswer}
 use Rattle.rules.proofs.Keeps.{WholeIf}
@@ -37,10 +40,10 @@ use Rattle.export.specs.Parts.{rgbNumber}
 -- ---- a code of values that stays clear of the refusals
 
 abbrev Clear : {A : Type 0} → (A → ℕ) → Type 0
-Clear {A} code = (x : A) → (code x ≡ 0) ⊎ (128 ≤ code x)
+Clear {A} code = (x : A) → (code x % 256 ≡ 0) ⊎ (code x % 256 ≡ 128)
 
 unfoldable pub Numbered : {A : Type 0} → Answer A → Type 0
-Numbered (refused n) = (1 ≤ n) × (n ≤ 7)
+Numbered (refused n) = (1 ≤ n % 256) × (n % 256 ≤ 26)
 Numbered (given a) = Unit {0}
 
 pub coded-once : {A : Type 0} (code : A → ℕ) → Once code → Clear code → (a b : Answer A) → Numbered a → Numbered b → coded code a ≡ coded code b → a ≡ b
@@ -56,8 +59,7 @@ value-once : Once value
 value-once x y e = omega arith
 
 value-clear : Clear value
-value-clear zero = inl refl
-value-clear (suc x) = inr (omega arith)
+value-clear x = inl (omega arith)
 
 pub optional-once : Once optional
 unfolding optional
@@ -68,7 +70,7 @@ optional-once (some x) (some y) e = ap some (value-once x y e)
 
 optional-clear : Clear optional
 unfolding optional
-optional-clear none = inr (lit≤ tt)
+optional-clear none = inr refl
 optional-clear (some x) = value-clear x
 
 truth-once : Once truth
@@ -148,29 +150,33 @@ content-once oneScreen oneScreen e = refl
 
 content-clear : Clear content
 unfolding content
-content-clear (writesOf n) = inr (omega arith)
-content-clear oneScreen = inr (omega arith)
+content-clear (writesOf n) = value-clear (8 * n + 1)
+content-clear oneScreen = value-clear (8 * captureBytes + 2)
 
 pub content-apart : (a b : Answer Content) → Numbered a → Numbered b → coded content a ≡ coded content b → a ≡ b
 content-apart = coded-once content content-once content-clear
 
 -- ---- and every refusal that a call gives has such a number
 
-refused-numbered : (A : Type 0) (n : ℕ) → 1 ≤ n → n ≤ 7 → Numbered {A = A} (refused n)
+refused-numbered : (A : Type 0) (n : ℕ) → 1 ≤ n → n ≤ 26 → Numbered {A = A} (refused n)
 unfolding Numbered
-refused-numbered A n p q = (p, q)
+refused-numbered A n p q = (omega arith, omega arith)
 
-test-numbered : {A : Type 0} (t : Bool) (a : Answer A) (n : ℕ) → Numbered a → 1 ≤ n → n ≤ 7 → Numbered (cond t a (refused n))
+test-numbered : {A : Type 0} (t : Bool) (a : Answer A) (n : ℕ) → Numbered a → 1 ≤ n → n ≤ 26 → Numbered (cond t a (refused n))
 test-numbered {A} t a n f p q = either Numbered t (λ _. f) (λ _. refused-numbered A n p q)
 
 given-numbered : {A : Type 0} (a : A) → Numbered (given a)
 unfolding Numbered
 given-numbered a = tt
 
+broken-numbered : (A : Type 0) (b : List ℕ) → eqb (length b) blockBytes ≡ true → valid b ≡ false → Numbered {A = A} (refused (brokenNumber (broken b)))
+unfolding Numbered
+broken-numbered A b l v = let k = number-read b (parts-broken b l v) .low in (omega arith, k .1)
+
 refusing-numbered : {A : Type 0} (b : List ℕ) (a : Answer A) → Numbered a → Numbered (refusing b a)
 unfolding refusing
-refusing-numbered b a f =
-    test-numbered (eqb (length b) blockBytes) _ 1 (test-numbered (valid b) a 2 f (lit≤ tt) (lit≤ tt)) (lit≤ tt) (lit≤ tt)
+refusing-numbered {A} b a f =
+    either Numbered (eqb (length b) blockBytes) (λ l. either Numbered (valid b) (λ _. f) (λ v. broken-numbered A b l v)) (λ _. refused-numbered _ 1 (lit≤ tt) (lit≤ tt))
 
 pub write-numbered : (b : List ℕ) (v : ℕ) (command : List ℕ) → Numbered (writeAnswer b v command)
 unfolding writeAnswer withRoom

@@ -25,7 +25,7 @@ pub extern "C" fn sporedrift_post_boot(block: &mut [u8]) -> u32
 pub extern "C" fn sporedrift_check(block: &[u8]) -> u32
     ensures { λ r. ⌜ r ≡ refusalOf (now (block .entry)) ⌝ }
 {
-    unit::check(block) as u32
+    unit::check(block).0
 }
 
 #[no_mangle]

@@ -42,7 +42,7 @@ pub fn of_written(told: Written) -> u32
     ensures { λ r. ⌜ r ≡ coded optional (writtenTold told) ⌝ }
 {
     match told {
-        Written::Refused(n) => n as u32,
+        Written::Refused(r) => r.0,
         Written::Nothing => NONE,
         Written::Command(n) => value(n as u32),
     }
@@ -53,7 +53,7 @@ pub fn of_played(told: Played) -> u32
     ensures { λ r. ⌜ r ≡ coded run (playedTold told) ⌝ }
 {
     match told {
-        Played::Refused(n) => n as u32,
+        Played::Refused(r) => r.0,
         Played::Took(at) => eighths(at, 0),
         Played::Command(at, n) => eighths(at, n),
     }
@@ -63,7 +63,7 @@ pub fn of_shown(told: Shown) -> u32
     ensures { λ r. ⌜ r ≡ coded optional (shownTold told) ⌝ }
 {
     match told {
-        Shown::Refused(n) => n as u32,
+        Shown::Refused(r) => r.0,
         Shown::Took(l) => of_landed(l),
     }
 }
@@ -82,7 +82,7 @@ pub fn of_number(told: Number) -> u32
     ensures { λ r. ⌜ r ≡ coded value (numberTold told) ⌝ }
 {
     match told {
-        Number::Refused(n) => n as u32,
+        Number::Refused(r) => r.0,
         Number::Is(v) => value(v as u32),
     }
 }
@@ -91,7 +91,7 @@ pub fn of_colour(told: Colour) -> u32
     ensures { λ r. ⌜ r ≡ coded value (colourTold told) ⌝ }
 {
     match told {
-        Colour::Refused(n) => n as u32,
+        Colour::Refused(r) => r.0,
         Colour::Is(c) => value(c.0 as u32),
     }
 }
@@ -100,7 +100,7 @@ pub fn of_entry(told: Entry) -> u32
     ensures { λ r. ⌜ r ≡ coded value (entryTold told) ⌝ }
 {
     match told {
-        Entry::Refused(n) => n as u32,
+        Entry::Refused(r) => r.0,
         Entry::Is(w) => value(w.0 as u32),
     }
 }
@@ -109,7 +109,7 @@ pub fn of_border(told: Border) -> u32
     ensures { λ r. ⌜ r ≡ coded optional (borderTold told) ⌝ }
 {
     match told {
-        Border::Refused(n) => n as u32,
+        Border::Refused(r) => r.0,
         Border::Transparent => NONE,
         Border::Opaque(c) => value(c.0 as u32),
     }

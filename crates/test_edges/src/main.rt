@@ -1,5 +1,6 @@
 // The worked examples of RULES 10, run on the unit by its public calls: one module a topic. What is written is compared with the file
 // `stdout`.
+mod blocks;
 mod maps;
 mod replays;
 mod screens;
@@ -10,4 +11,5 @@ fn main() {
     replays::examples(&mut block);
     maps::examples(&mut block);
     screens::examples(&mut block);
+    blocks::examples(&mut block);
 }

@@ -34,9 +34,9 @@ fn show(screen: &[u8], block: &mut [u8])
 
 fn tell(told: Shown) {
     match told {
-        Shown::Refused(n) => {
+        Shown::Refused(r) => {
             io::write_all(STDOUT_FILENO, b"refused ");
-            io::print_decimal(STDOUT_FILENO, n as u64);
+            io::print_decimal(STDOUT_FILENO, r.number() as u64);
         }
         Shown::Took(landed) => name(landed),
     }

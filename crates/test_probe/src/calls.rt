@@ -1,4 +1,5 @@
-// The public calls that change a block, and the check of a saved one; their answers as numbers. A refusal n is 0x100 + n.
+// The public calls that change a block, and the check of a saved one; their answers as numbers. A refusal is 0x80000000 and
+// its number, with 256 times its offset where it has one.
 use super::drawing::landed_kind;
 use unit::Shown;
 use unit::Written;
@@ -11,7 +12,7 @@ pub extern "C" fn probe_write_joypad(block: &mut [u8], value: u8, command: &mut 
 
 fn written_number(told: Written) -> u32 {
     match told {
-        Written::Refused(n) => 256 + (n as u32),
+        Written::Refused(r) => r.0 | 0x80000000,
         Written::Nothing => 0,
         Written::Command(n) => n as u32,
     }
@@ -25,14 +26,15 @@ pub extern "C" fn probe_update_screen(block: &mut [u8], screen: &[u8]) -> u32 {
 
 fn shown_number(told: Shown) -> u32 {
     match told {
-        Shown::Refused(n) => 256 + (n as u32),
+        Shown::Refused(r) => r.0 | 0x80000000,
         Shown::Took(landed) => landed_kind(landed) as u32,
     }
 }
 
+// The refusal as it is, or 0.
 #[no_mangle]
 pub extern "C" fn probe_check(block: &[u8]) -> u32 {
-    unit::check(block) as u32
+    unit::check(block).0
 }
 
 #[no_mangle]

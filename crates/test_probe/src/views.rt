@@ -1,7 +1,10 @@
-// The calls that only look at a block, each answer as one number: the value, a refusal as 0x80000000 and its number, transparent as 0x40000000.
+// The calls that only look at a block, each answer as one number: the value, a refusal as 0x80000000 and its number (with 256 times its
+// offset where it has one), transparent as 0x40000000.
+use refusal::Refusal;
+
 #[no_mangle]
-pub extern "C" fn probe_view_refusal(block: &[u8]) -> u8 {
-    view::refusal(block)
+pub extern "C" fn probe_view_refusal(block: &[u8]) -> u32 {
+    view::refusal(block).0
 }
 
 #[no_mangle]
@@ -39,8 +42,8 @@ pub extern "C" fn probe_view_picture(block: &[u8], out: &mut [u16]) -> u64 {
     number(view::picture(block, out))
 }
 
-fn refused(no: u8) -> u64 {
-    no as u64 | 0x80000000
+fn refused(no: Refusal) -> u64 {
+    no.0 as u64 | 0x80000000
 }
 
 fn number(n: view::Number) -> u64 {

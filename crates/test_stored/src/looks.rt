@@ -1,6 +1,7 @@
 // The calls that only look: the mask, the backdrop, single colours and map words, a row, and at every fourth round the picture.
 use crate::digest::number;
 use crate::digest::words;
+use refusal::Refusal;
 use test_seeds::below;
 use test_seeds::byte;
 use test_seeds::step;
@@ -55,8 +56,8 @@ fn picture(h: u64, block: &[u8]) -> u64 {
 }
 
 // A refusal n is 0x80000000 + n, which no answer is.
-fn refused(h: u64, n: u8) -> u64 {
-    number(h, 0x80000000 + (n as u64))
+fn refused(h: u64, n: Refusal) -> u64 {
+    number(h, 0x80000000 + (n.0 as u64))
 }
 
 fn with_number(h: u64, told: view::Number) -> u64 {

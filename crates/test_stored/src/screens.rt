@@ -30,7 +30,7 @@ fn update(count: usize, from: u64, block: &mut [u8], screen: &mut [u8], h: u64) 
 // The kind that landed, 255 for none; a refusal n is 256 + n.
 fn answer(h: u64, told: Shown) -> u64 {
     match told {
-        Shown::Refused(n) => number(h, 256 + (n as u64)),
+        Shown::Refused(n) => number(h, 256 + (n.0 as u64)),
         Shown::Took(landed) => number(h, kind(landed)),
     }
 }

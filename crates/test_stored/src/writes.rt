@@ -26,7 +26,7 @@ fn send(block: &mut [u8], writes: &[u8], command: &mut [u8], h: u64) -> u64 {
 // Nothing is 0, a refusal n 256 + n; a command is its packets and the whole buffer, of which the tail is kept.
 fn answer(h: u64, told: Written, command: &[u8]) -> u64 {
     match told {
-        Written::Refused(n) => number(h, 256 + (n as u64)),
+        Written::Refused(n) => number(h, 256 + (n.0 as u64)),
         Written::Nothing => number(h, 0),
         Written::Command(n) => bytes(number(h, n as u64), command),
     }

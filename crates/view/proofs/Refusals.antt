@@ -16,7 +16,7 @@ use Rattle.view.specs.Refusal.{refusing, refusalOf, Valid}
 use Rattle.view.specs.Looks.{leaves}
 
 -- a block of the right length that is not valid breaks one of V1 to V6
-parts-broken : (b : List ℕ) → eqb (length b) blockBytes ≡ true → valid b ≡ false → validParts b ≡ false
+pub parts-broken : (b : List ℕ) → eqb (length b) blockBytes ≡ true → valid b ≡ false → validParts b ≡ false
 unfolding valid
 parts-broken b p q = sym (ap (λ t. t && validParts b) p) ∙ q
 

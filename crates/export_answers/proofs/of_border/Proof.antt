@@ -8,9 +8,6 @@ use Rattle.export_answers.proofs.of_border.Tie as tie
 enum-known-told : tie.Need-enum-known-told
 enum-known-told c = search needs
 
-cast-result : tie.Need-cast-result
-cast-result c = search needs
-
 enum-told : tie.Need-enum-told
 enum-told c = search needs
 
@@ -36,4 +33,4 @@ unfolding coded optional borderTold
 returns-3 c = rw (c .before .before .before .told2 .given .1) (c .value .ensures)
 
 pub of-border-spec : {M : Type 1} → statement M
-of-border-spec = tie.close (tie.spec enum-known-told cast-result enum-told enum-known-told-2 cast-value value-requires returns returns-2 returns-3)
+of-border-spec = tie.close (tie.spec enum-known-told enum-told enum-known-told-2 cast-value value-requires returns returns-2 returns-3)

@@ -11,9 +11,6 @@ use Rattle.export_answers.proofs.of_played.Tie as tie
 enum-known-told : tie.Need-enum-known-told
 enum-known-told c = search needs
 
-cast-result : tie.Need-cast-result
-cast-result c = search needs
-
 enum-known-told-2 : tie.Need-enum-known-told-2
 enum-known-told-2 c = search needs
 
@@ -42,4 +39,4 @@ returns-3 c = rw (c .before .before .told3 .given .1) (c .eighths2 .ensures)
 
 pub of-played-spec : {M : Type 1} → statement M
 of-played-spec =
-    tie.close (tie.spec enum-known-told cast-result enum-known-told-2 eighths-requires enum-known-told-3 eighths-requires-2 returns returns-2 returns-3)
+    tie.close (tie.spec enum-known-told enum-known-told-2 eighths-requires enum-known-told-3 eighths-requires-2 returns returns-2 returns-3)

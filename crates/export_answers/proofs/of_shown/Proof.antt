@@ -8,9 +8,6 @@ use Rattle.export_answers.proofs.of_shown.Tie as tie
 enum-known-told : tie.Need-enum-known-told
 enum-known-told c = search needs
 
-cast-result : tie.Need-cast-result
-cast-result c = search needs
-
 enum-known-told-2 : tie.Need-enum-known-told-2
 enum-known-told-2 c = search needs
 
@@ -26,4 +23,4 @@ unfolding coded shownTold
 returns-2 c = rw (c .before .before .told2 .given .1) (c .of-landed .ensures)
 
 pub of-shown-spec : {M : Type 1} → statement M
-of-shown-spec = tie.close (tie.spec enum-known-told cast-result enum-known-told-2 of-landed-requires returns returns-2)
+of-shown-spec = tie.close (tie.spec enum-known-told enum-known-told-2 of-landed-requires returns returns-2)

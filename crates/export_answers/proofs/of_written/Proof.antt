@@ -8,9 +8,6 @@ use Rattle.export_answers.proofs.of_written.Tie as tie
 enum-known-told : tie.Need-enum-known-told
 enum-known-told c = search needs
 
-cast-result : tie.Need-cast-result
-cast-result c = search needs
-
 enum-told : tie.Need-enum-told
 enum-told c = search needs
 
@@ -36,4 +33,4 @@ unfolding coded optional writtenTold
 returns-3 c = rw (c .before .before .told2 .given .1) (c .value .ensures)
 
 pub of-written-spec : {M : Type 1} → statement M
-of-written-spec = tie.close (tie.spec enum-known-told cast-result enum-told enum-known-told-2 cast-value value-requires returns returns-2 returns-3)
+of-written-spec = tie.close (tie.spec enum-known-told enum-told enum-known-told-2 cast-value value-requires returns returns-2 returns-3)
