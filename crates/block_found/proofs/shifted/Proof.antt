@@ -15,7 +15,7 @@ returns : tie.Need-returns
 returns c = search needs
 
 returns-2 : tie.Need-returns-2
-returns-2 c = let top : 2 ^ 8 ≤ 2 ^ c .before .args .n = pow-mono {i = 8} {j = c .before .args .n} (c .if1 .left) in sym (div-eq-of-lt (omega arith))
+returns-2 c = let top : 2 ^ 8 ≤ 2 ^ c .before .args .n = pow-mono {i = 8} {j = c .before .args .n} (let k = c .if1 .left in omega arith) in sym (div-eq-of-lt (omega arith))
 
 pub shifted-spec : {M : Type 1} → statement M
 shifted-spec = tie.close (tie.spec shr-result returns returns-2)
