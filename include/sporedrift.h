@@ -11,8 +11,10 @@
  * - Alignment: bytes may stand anywhere, the block too. The words of a row and of the picture are uint16_t and stand as those do,
  *   at an even address; an array of uint16_t does, and so does what malloc gives.
  *
- * An answer is one number (docs/RULES.md, 2.8). Its low byte is 0 for a value, which stands above it; the number of a
- * refusal; or SPOREDRIFT_NONE for an answer that is "none". The lowest refusal wins, and a refusal changes no lent byte.
+ * An answer is one number (docs/RULES.md, 2.8). Its low byte is 0 for a value, which stands above it; the number of a refusal; or
+ * SPOREDRIFT_NONE for an answer that is "none". Above a refusal that says which rule the block breaks (21 to 26) stands the offset of
+ * the lowest byte that breaks it; every other refusal is its number alone. Below, each call has its refusals in the order in which
+ * they are tested: the first that applies is given. A refusal changes no lent byte.
  */
 #ifndef SPOREDRIFT_H
 #define SPOREDRIFT_H
@@ -27,9 +29,9 @@ extern "C" {
 /* ---- the version of this header; sporedrift_version tells that of the library which is linked */
 
 #define SPOREDRIFT_VERSION_MAJOR 0
-#define SPOREDRIFT_VERSION_MINOR 1
+#define SPOREDRIFT_VERSION_MINOR 2
 #define SPOREDRIFT_VERSION_PATCH 0
-#define SPOREDRIFT_VERSION "0.1.0"
+#define SPOREDRIFT_VERSION "0.2.0"
 #define SPOREDRIFT_VERSION_NUMBER (SPOREDRIFT_VERSION_MAJOR * 65536 + SPOREDRIFT_VERSION_MINOR * 256 + SPOREDRIFT_VERSION_PATCH)
 
 /* The value is the library's version, made as SPOREDRIFT_VERSION_NUMBER is. Refuses nothing. */
@@ -41,29 +43,51 @@ uint32_t sporedrift_version(void);
 
 enum sporedrift_refused { /* docs/RULES.md, 2.1 */
     SPOREDRIFT_REFUSED_LENGTH = 1,  /* the block's length is not SPOREDRIFT_BLOCK */
-    SPOREDRIFT_REFUSED_BLOCK = 2,   /* the block is not valid; new and post_boot make a valid one, and calls keep it so */
     SPOREDRIFT_REFUSED_SCREEN = 3,  /* the screen's length is not SPOREDRIFT_SCREEN */
     SPOREDRIFT_REFUSED_PLACE = 4,   /* there is no such column, row or shade (docs/RULES.md, 2.5) */
     SPOREDRIFT_REFUSED_COMMAND = 5, /* no command: not 16 bytes for each packet that its first byte counts */
     SPOREDRIFT_REFUSED_OUTPUT = 6,  /* the output lent has no room for the call's longest result (docs/RULES.md, 2.6) */
-    SPOREDRIFT_REFUSED_LINE = 7     /* the text is no line of a log (docs/RULES.md, 8.2) */
+    SPOREDRIFT_REFUSED_LINE = 7,    /* the text is no line of a log (docs/RULES.md, 8.2) */
+
+    /* The block is not valid: the first rule that it breaks, with an offset. new and post_boot make a valid block, calls keep it so. */
+    SPOREDRIFT_REFUSED_V1 = 21, /* mask mode, joypad index, joypad mask (docs/RULES.md, 1.6) */
+    SPOREDRIFT_REFUSED_V2 = 22, /* P15 high, both high, preset in force, frozen present, bytes 13 to 15 (docs/RULES.md, 1.7) */
+    SPOREDRIFT_REFUSED_V3 = 23, /* receiver, expected, received, bit index, current packet, packet store (docs/RULES.md, 1.8) */
+    SPOREDRIFT_REFUSED_V4 = 24, /* countdown, and the kind of the transfer (docs/RULES.md, 1.9) */
+    SPOREDRIFT_REFUSED_V5 = 25, /* the preset, where it is not in force (docs/RULES.md, 1.10) */
+    SPOREDRIFT_REFUSED_V6 = 26  /* mask mode and frozen capture (docs/RULES.md, 1.11) */
 };
 
-/* The number of the refusal, or 0: then sporedrift_value has the value, unless the answer is SPOREDRIFT_NONE. */
+/* The number of the refusal, or 0: then sporedrift_value has the value, unless the answer is SPOREDRIFT_NONE. Of a refusal it is 0. */
 static inline uint32_t sporedrift_refusal(uint32_t answer) { return answer & 0x7Fu; }
-static inline uint32_t sporedrift_value(uint32_t answer) { return answer >> 8; }
+static inline uint32_t sporedrift_value(uint32_t answer) { return sporedrift_refusal(answer) != 0 ? 0 : answer >> 8; }
 
-/* The refusal of an answer in words, for a message; NULL if it refuses nothing. */
+/* The rule that the block breaks: 1 for V1, up to 6 for V6; 0 where the answer tells of none. */
+static inline uint32_t sporedrift_rule(uint32_t answer) {
+    uint32_t number = sporedrift_refusal(answer);
+    return number >= SPOREDRIFT_REFUSED_V1 && number <= SPOREDRIFT_REFUSED_V6 ? number - SPOREDRIFT_REFUSED_V1 + 1 : 0;
+}
+
+/* Where it breaks that rule: the offset of the lowest such byte. An answer without an offset gives 0, which is the mask mode's too: ask
+ * sporedrift_rule first. */
+static inline uint32_t sporedrift_offset(uint32_t answer) { return sporedrift_refusal(answer) != 0 ? answer >> 8 : 0; }
+
+/* The refusal of an answer in words, for a message; NULL if it refuses nothing. sporedrift_field_text, below, names the byte. */
 static inline const char *sporedrift_refusal_text(uint32_t answer) {
     switch (sporedrift_refusal(answer)) {
     case 0: return NULL;
     case SPOREDRIFT_REFUSED_LENGTH: return "the block is not 30,020 bytes";
-    case SPOREDRIFT_REFUSED_BLOCK: return "the block is not valid";
     case SPOREDRIFT_REFUSED_SCREEN: return "the screen is not 5,760 bytes";
     case SPOREDRIFT_REFUSED_PLACE: return "there is no such column, row or shade";
     case SPOREDRIFT_REFUSED_COMMAND: return "the command is empty, or is not as long as its first byte tells";
     case SPOREDRIFT_REFUSED_OUTPUT: return "the output is short";
     case SPOREDRIFT_REFUSED_LINE: return "the text is no line of a log";
+    case SPOREDRIFT_REFUSED_V1: return "rule V1 is broken: mask mode, joypad index, joypad mask";
+    case SPOREDRIFT_REFUSED_V2: return "rule V2 is broken: P15 high, both high, preset in force, frozen present, unused bytes";
+    case SPOREDRIFT_REFUSED_V3: return "rule V3 is broken: receiver, expected, received, bit index, current packet, packet store";
+    case SPOREDRIFT_REFUSED_V4: return "rule V4 is broken: countdown, transfer's kind";
+    case SPOREDRIFT_REFUSED_V5: return "rule V5 is broken: the preset that is not in force";
+    case SPOREDRIFT_REFUSED_V6: return "rule V6 is broken: mask mode, frozen capture";
     default: return "a refusal that this header does not know";
     }
 }
@@ -127,6 +151,39 @@ enum sporedrift_at {
 #define SPOREDRIFT_MAP 1792u             /* the border's 32 by 28 map words */
 #define SPOREDRIFT_MAP_PALETTES 96u      /* the border's palettes 4 to 6, sixteen words each */
 
+/* The field or part of the block that the byte at an offset is in (docs/RULES.md, 1.4 and 1.5), for a message; NULL past the end. */
+static inline const char *sporedrift_field_text(uint32_t offset) {
+    switch (offset) {
+    case SPOREDRIFT_MASK_MODE_AT: return "the mask mode";
+    case SPOREDRIFT_JOYPAD_INDEX_AT: return "the joypad index";
+    case SPOREDRIFT_JOYPAD_MASK_AT: return "the joypad mask";
+    case SPOREDRIFT_P15_HIGH_AT: return "the P15-high flag";
+    case SPOREDRIFT_BOTH_HIGH_AT: return "the both-high flag";
+    case SPOREDRIFT_RECEIVER_AT: return "the receiver";
+    case SPOREDRIFT_EXPECTED_AT: return "the number of packets expected";
+    case SPOREDRIFT_RECEIVED_AT: return "the number of packets received";
+    case SPOREDRIFT_BIT_INDEX_AT: return "the bit index";
+    case SPOREDRIFT_PRESET_IN_FORCE_AT: return "the preset-in-force flag";
+    case SPOREDRIFT_COUNTDOWN_AT: return "the countdown";
+    case SPOREDRIFT_TRANSFER_AT: return "the transfer's kind";
+    case SPOREDRIFT_FROZEN_PRESENT_AT: return "the frozen-present flag";
+    }
+    if (offset < SPOREDRIFT_CURRENT_PACKET_AT) return "an unused byte";
+    if (offset < SPOREDRIFT_PACKETS_AT) return "the current packet";
+    if (offset < SPOREDRIFT_PRESET_AT) return "the packet store";
+    if (offset < SPOREDRIFT_PALETTES_AT) return "the preset";
+    if (offset < SPOREDRIFT_ATTRIBUTES_AT) return "the palettes";
+    if (offset < SPOREDRIFT_SYSTEM_PALETTES_AT) return "the attribute map";
+    if (offset < SPOREDRIFT_ATTRIBUTE_FILES_AT) return "the system palettes";
+    if (offset < SPOREDRIFT_LIVE_AT) return "the attribute files";
+    if (offset < SPOREDRIFT_FROZEN_AT) return "the live capture";
+    if (offset < SPOREDRIFT_TILES_AT) return "the frozen capture";
+    if (offset < SPOREDRIFT_MAP_AT) return "the border tiles";
+    if (offset < SPOREDRIFT_MAP_PALETTES_AT) return "the border map";
+    if (offset < SPOREDRIFT_BLOCK) return "the border palettes";
+    return NULL;
+}
+
 enum sporedrift_receiver {
     SPOREDRIFT_RECEIVER_IDLE = 0,
     SPOREDRIFT_RECEIVER_RECEIVING = 1, /* in a packet */
@@ -139,18 +196,18 @@ enum sporedrift_receiver {
 uint32_t sporedrift_new(uint8_t *block, size_t block_len);
 uint32_t sporedrift_post_boot(uint8_t *block, size_t block_len);
 
-/* Whether a saved block can be taken up. Refusals 1, 2; else 0. */
+/* Whether a saved block can be taken up. Refusals 1, 21 to 26; else 0. */
 uint32_t sporedrift_check(const uint8_t *block, size_t block_len);
 
 /* ---- what the game does */
 
-/* A write to the joypad register. Refusals 1, 2, 6 (a command buffer under SPOREDRIFT_COMMAND bytes); none; or n where this write
- * completed a command of n packets, which is carried out: its 16 * n bytes are at the front of `command`. */
+/* A write to the joypad register. Refusals 1, 21 to 26, 6 (a command buffer under SPOREDRIFT_COMMAND bytes); none; or n where this
+ * write completed a command of n packets, which is carried out: its 16 * n bytes are at the front of `command`. */
 uint32_t sporedrift_write_joypad(uint8_t *block, size_t block_len, uint8_t value, uint8_t *command, size_t command_len);
 
 /* Joypad writes in a row, up to and with the first that completes a command, which is carried out and stands at the front of
- * `command`. Refusals 1, 2, 6 (a command buffer under SPOREDRIFT_COMMAND bytes). Of the answer, sporedrift_taken tells how many writes
- * were taken and sporedrift_packets the packets of the command: 0 if none was completed, and then all writes were taken, or
+ * `command`. Refusals 1, 21 to 26, 6 (a command buffer under SPOREDRIFT_COMMAND bytes). Of the answer, sporedrift_taken tells how many
+ * writes were taken and sporedrift_packets the packets of the command: 0 if none was completed, and then all writes were taken, or
  * SPOREDRIFT_PLAY of a longer slice. What is left goes into the next call. It does what sporedrift_write_joypad does with one write
  * after the other, and checks the block once: for many writes it is much quicker. */
 uint32_t sporedrift_play(uint8_t *block, size_t block_len, const uint8_t *writes, size_t writes_len, uint8_t *command,
@@ -159,7 +216,7 @@ uint32_t sporedrift_play(uint8_t *block, size_t block_len, const uint8_t *writes
 static inline size_t sporedrift_taken(uint32_t played) { return sporedrift_value(played) >> 3; }
 static inline uint32_t sporedrift_packets(uint32_t played) { return sporedrift_value(played) & 7u; }
 
-/* A screen that the game shows. Refusals 1, 2, 3; none; or what this screen made land, an enum sporedrift_transfer. */
+/* A screen that the game shows. Refusals 1, 21 to 26, 3; none; or what this screen made land, an enum sporedrift_transfer. */
 uint32_t sporedrift_update_screen(uint8_t *block, size_t block_len, const uint8_t *screen, size_t screen_len);
 
 enum sporedrift_transfer {
@@ -179,24 +236,26 @@ enum sporedrift_mask {
     SPOREDRIFT_MASK_BACKDROP = 3
 };
 
-/* The mask mode, an enum sporedrift_mask. Refusals 1, 2. */
+/* The mask mode, an enum sporedrift_mask. Refusals 1, 21 to 26. */
 uint32_t sporedrift_mask_mode(const uint8_t *block, size_t block_len);
 
-/* The colour of everything that nothing covers. Refusals 1, 2. */
+/* The colour of everything that nothing covers. Refusals 1, 21 to 26. */
 uint32_t sporedrift_backdrop(const uint8_t *block, size_t block_len);
 
-/* The colour of a shade (0 to 3) at column x (below 160) of row y (below 144) of the screen, whatever the mask. Refusals 1, 2, 4. */
+/* The colour of a shade (0 to 3) at column x (below 160) of row y (below 144) of the screen, whatever the mask.
+ * Refusals 1, 21 to 26, 4. */
 uint32_t sporedrift_color_at(const uint8_t *block, size_t block_len, size_t x, size_t y, uint8_t shade);
 
 /* The border's map word at a column (below 32) of a row (below 28): tile in bits 0 to 9, palette in 10 to 12, flips in 14 (x) and
- * 15 (y). Refusals 1, 2, 4. */
+ * 15 (y). Refusals 1, 21 to 26, 4. */
 uint32_t sporedrift_map_entry(const uint8_t *block, size_t block_len, size_t column, size_t row);
 
-/* The border's colour at column x (below 256) of row y (below 224) of the picture; none where it is transparent. Refusals 1, 2, 4. */
+/* The border's colour at column x (below 256) of row y (below 224) of the picture; none where it is transparent.
+ * Refusals 1, 21 to 26, 4. */
 uint32_t sporedrift_border_color_at(const uint8_t *block, size_t block_len, size_t x, size_t y);
 
 /* Row y of the picture (below 224), and the whole of it row by row, into the first 256 and 57,344 words of `out`; the answer is that
- * number. Refusals 1, 2, 4 (the row), 6. */
+ * number. Refusals 1, 21 to 26, 4 (the row), 6. */
 uint32_t sporedrift_row(const uint8_t *block, size_t block_len, size_t y, uint16_t *out, size_t out_len);
 uint32_t sporedrift_picture(const uint8_t *block, size_t block_len, uint16_t *out, size_t out_len);
 

@@ -11,8 +11,13 @@ static uint8_t screen[SPOREDRIFT_SCREEN];
 static uint16_t picture[SPOREDRIFT_PICTURE];
 
 static uint32_t tell(const char *call, uint32_t answer) {
-    if (sporedrift_refusal(answer) != 0)
-        printf("%s: refused %u\n", call, (unsigned)sporedrift_refusal(answer));
+    unsigned number = sporedrift_refusal(answer), rule = sporedrift_rule(answer), offset = sporedrift_offset(answer);
+
+    if (rule != 0)
+        printf("%s: rule V%u is broken at byte %u (0x%X), %s (refusal %u)\n", call, rule, offset, offset, sporedrift_field_text(offset),
+               number);
+    else if (number != 0)
+        printf("%s: refused %u\n", call, number);
     else if (answer == SPOREDRIFT_NONE)
         printf("%s: none\n", call);
     else
@@ -128,6 +133,15 @@ static void look(void) {
     printf("  row 100 of it: %s\n", memcmp(row, picture + 100 * SPOREDRIFT_WIDTH, sizeof row) == 0 ? "the same" : "another");
 }
 
+/* A saved block in which one byte went bad, as a program tells it that takes up saved blocks. */
+static void damage(size_t at, uint8_t value) {
+    static uint8_t saved[SPOREDRIFT_BLOCK];
+
+    memcpy(saved, block, sizeof saved);
+    saved[at] = value;
+    tell("  check", sporedrift_check(saved, sizeof saved));
+}
+
 /* A Portable Pixmap; the sum (FNV-1a) tells whether another program drew the same. */
 static int write_picture(const char *path) {
     FILE *file = fopen(path, "wb");
@@ -174,5 +188,11 @@ int main(int argc, char **argv) {
     game_screen();
     show();
     look();
+    printf("damaged\n");
+    damage(SPOREDRIFT_MASK_MODE_AT, 4);
+    damage(SPOREDRIFT_BIT_INDEX_AT, 129);
+    damage(SPOREDRIFT_TRANSFER_AT, 1);
+    damage(SPOREDRIFT_FROZEN_AT + 1000, 0x1B);
+    damage(SPOREDRIFT_TILES_AT, 0xFF); /* any bytes are tiles */
     return write_picture(argv[1]) ? EXIT_SUCCESS : EXIT_FAILURE;
 }

@@ -7,7 +7,11 @@ draws the picture of 256 by 224 colours. A recording of both is a log, and the p
     >>> picture = sporedrift.plate("samples/dusk.log")
     >>> picture.save("dusk.png")
 
-What is given and can't be taken raises `Refusal`, which has the number that the other interfaces tell; then nothing has changed.
+What is given and can't be taken raises `Refusal`, which has the number that the other interfaces tell; then nothing has changed. Of a saved
+block that breaks a rule it also tells the byte:
+
+    >>> sporedrift.Unit.load(saved)
+    sporedrift.Refusal: rule V3 is broken at byte 8 (0x8), the bit index (refusal 23)
 
 The calls themselves are in the shared object libsporedrift.so, which is reached by `ctypes`. It is looked for where SPOREDRIFT_LIB says (a
 folder or the file); else in the repository that this module stands in; else in `lib` of the prefix that it is installed in; else where the
@@ -15,11 +19,12 @@ system looks for libraries.
 """
 
 from ._calls import Refusal, library_version
+from ._fields import field_text
 from ._log import Line, LineKind, parse_line, plate
 from ._picture import HEIGHT, WIDTH, BorderMapEntry, Picture, Rgb555
 from ._unit import BLOCK, COMMAND, PACKET, PACKET_WRITES, SCREEN, MaskMode, Played, Transfer, Unit, encode, verdict
 
-__version__ = "0.1.0"
+__version__ = "0.2.0"
 
 __all__ = [
     "BLOCK",
@@ -40,6 +45,7 @@ __all__ = [
     "Transfer",
     "Unit",
     "encode",
+    "field_text",
     "library_version",
     "parse_line",
     "plate",

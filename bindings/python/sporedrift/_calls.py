@@ -9,8 +9,10 @@ import sys
 from pathlib import Path
 from typing import Any, Iterator, List, Optional, Union
 
+from ._fields import field_text
+
 # The library that this module is written for: its first two numbers have to be these.
-MAJOR, MINOR = 0, 1
+MAJOR, MINOR = 0, 2
 
 NAMES = ("libsporedrift.so.0", "libsporedrift.so")
 WHAT_TO_DO = (
@@ -25,28 +27,32 @@ BytesLike = Union[bytes, bytearray, memoryview]
 class Refusal(ValueError):
     """A call refused what it was given, and nothing has changed.
 
-    `number` is the refusal's number: 1 and 2 the block, 3 the screen, 4 a place or a shade, 5 the command, 6 the output, 7 a line of a log.
+    `number` is the refusal's number: 1 the block's length, 3 the screen, 4 a place or a shade, 5 the command, 6 the output, 7 a line of a
+    log; 21 to 26 the first of the rules V1 to V6 that the block breaks.
+    `offset` is the lowest byte of the block that breaks that rule, and None for every other refusal; `field_text` names what stands there.
     `line` is the number of the refused line, from 1, where a whole log was given.
     """
 
     WORDS = {
         1: "the block is not 30,020 bytes",
-        2: "the block is not valid",
         3: "the screen is not 5,760 bytes",
         4: "there is no such column, row, tile or shade",
         5: "the command is empty, or is not as long as its first byte tells",
         6: "the output is short",
         7: "the text is no line of a log",
+        **{20 + rule: f"rule V{rule} is broken" for rule in range(1, 7)},
     }
 
-    def __init__(self, number: int, line: Optional[int] = None) -> None:
+    def __init__(self, number: int, line: Optional[int] = None, offset: Optional[int] = None) -> None:
         self.number = number
         self.line = line
+        self.offset = offset
         where = "" if line is None else f"line {line}: "
-        super().__init__(f"{where}{self.WORDS.get(number, 'the library refuses')} (refusal {number})")
+        byte = "" if offset is None else f" at byte {offset} (0x{offset:X}), {field_text(offset)}"
+        super().__init__(f"{where}{self.WORDS.get(number, 'the library refuses')}{byte} (refusal {number})")
 
     def __reduce__(self) -> Any:
-        return type(self), (self.number, self.line)
+        return type(self), (self.number, self.line, self.offset)
 
 
 # ---- the shared object
@@ -154,9 +160,10 @@ NONE = 0x80
 
 
 def optional(answer: int) -> Optional[int]:
-    """An answer's value, or None. Refusal if it is one."""
-    if answer & 0x7F:
-        raise Refusal(answer & 0x7F)
+    """An answer's value, or None. Refusal if it is one: its number is in the low byte, and where a rule is broken the offset above it."""
+    number = answer & 0x7F
+    if number:
+        raise Refusal(number, offset=answer >> 8 if 21 <= number <= 26 else None)
     return None if answer == NONE else answer >> 8
 
 

@@ -60,7 +60,7 @@ def _played(log: BinaryIO) -> Unit:
         try:
             line = parse_line(text)
         except Refusal as refusal:
-            raise Refusal(refusal.number, number) from None
+            raise Refusal(refusal.number, number, refusal.offset) from None
         if line.kind is LineKind.SCREEN:
             unit.update_screen(line.data)
         else:

@@ -85,7 +85,7 @@ class Unit:
 
     @classmethod
     def load(cls, saved: BytesLike) -> "Unit":
-        """A unit that was saved. Refusals 1 and 2 if these bytes are not the block of one."""
+        """A unit that was saved. Refusal 1, or 21 to 26 with the offset, if these bytes are not the block of one."""
         block = octets(saved)
         value(_calls.check(block, len(block)))
         unit = cls()

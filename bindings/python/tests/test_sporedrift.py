@@ -24,7 +24,7 @@ sys.dont_write_bytecode = True
 sys.path.insert(0, PACKAGE)
 
 import sporedrift
-from sporedrift import BorderMapEntry, LineKind, MaskMode, Refusal, Rgb555, Transfer, Unit, encode, parse_line, plate, verdict
+from sporedrift import BorderMapEntry, LineKind, MaskMode, Refusal, Rgb555, Transfer, Unit, encode, field_text, parse_line, plate, verdict
 
 try:
     import PIL
@@ -60,6 +60,8 @@ class Case(unittest.TestCase):
         with self.assertRaises(Refusal) as caught:
             call(*words)
         self.assertEqual(caught.exception.number, number)
+        # a broken rule has its byte, and no other refusal has one
+        self.assertEqual(caught.exception.offset is not None, 21 <= number <= 26)
         return caught.exception
 
 
@@ -175,7 +177,7 @@ class Refusals(Case):
         broken[13] = 1
         self.refused(1, Unit.load, before[1:])
         self.refused(1, Unit.load, b"")
-        self.refused(2, Unit.load, broken)
+        self.refused(22, Unit.load, broken)
         for length in (0, 5759, 5761):
             self.refused(3, unit.update_screen, bytes(length))
         outside = [(160, 0, 0), (0, 144, 0), (0, 0, 4), (-1, 0, 0), (0, -1, 0), (0, 0, -1), (0, 0, 256), (1 << 32, 0, 0), (1 << 64, 0, 0)]
@@ -211,13 +213,16 @@ class Refusals(Case):
         self.assertEqual(plate(b""), Unit.post_boot().picture())
 
     def test_words(self):
-        for number in range(1, 8):
+        for number in (1, 3, 4, 5, 6, 7, *range(21, 27)):
             said = str(Refusal(number))
             self.assertTrue(said.endswith(f" (refusal {number})"), said)
+            self.assertNotIn("the library refuses", said)
+        self.assertEqual(str(Refusal(2)), "the library refuses (refusal 2)")
         self.assertTrue(str(Refusal(7, 3)).startswith("line 3: "))
-        again = pickle.loads(pickle.dumps(Refusal(7, 3)))
-        self.assertEqual((again.number, again.line, str(again)), (7, 3, str(Refusal(7, 3))))
-        self.assertIsInstance(Refusal(2), ValueError)
+        for refusal in (Refusal(7, 3), Refusal(26, offset=15180)):
+            again = pickle.loads(pickle.dumps(refusal))
+            self.assertEqual((again.args, vars(again)), (refusal.args, vars(refusal)))
+        self.assertIsInstance(Refusal(1), ValueError)
 
     def test_what_is_no_byte(self):
         unit = Unit.post_boot()
@@ -229,6 +234,69 @@ class Refusals(Case):
         self.assertRaises(TypeError, unit.color_at, 1.5, 0, 0)
         self.assertRaises(FileNotFoundError, plate, "no such log")
         self.assertEqual(unit.block, before)
+
+
+class Rules(Case):
+    """Damaged blocks: which rule is broken, at which byte, and in which words."""
+
+    def broken(self, valid, damage, number, offset, field):
+        """A valid block, damaged so, must break this rule at this byte, which is in this field."""
+        block = bytearray(valid)
+        Unit.load(block)
+        for at, value in damage.items():
+            block[at] = value
+        said = self.refused(number, Unit.load, block)
+        self.assertEqual(said.offset, offset)
+        self.assertEqual(field_text(offset), field)
+        self.assertEqual(str(said), f"rule V{number - 20} is broken at byte {offset} (0x{offset:X}), {field} (refusal {number})")
+
+    def test_each(self):
+        idle = Unit.post_boot().block
+        # in a first packet, of which twenty bits are in; between two packets, of which two of three are in; the preset is not in force
+        receiving = idle[:5] + bytes([1, 0, 0, 20]) + idle[9:16] + bytes([0xFF, 0xFF, 0x0F]) + idle[19:]
+        awaiting = idle[:5] + bytes([2, 3, 2]) + idle[8:32] + b"\x03" + b"\xFF" * 31 + idle[64:]
+        plain = idle[:9] + bytes(1) + idle[10:144] + bytes(8) + idle[152:]
+        self.broken(idle, {0: 4}, 21, 0, "the mask mode")
+        self.broken(idle, {1: 1}, 21, 1, "the joypad index")
+        self.broken(idle, {2: 4}, 21, 2, "the joypad mask")
+        self.broken(idle, {3: 0}, 22, 3, "the P15-high flag")
+        self.broken(idle, {4: 2}, 22, 4, "the both-high flag")
+        self.broken(idle, {9: 2}, 22, 9, "the preset-in-force flag")
+        self.broken(idle, {12: 2}, 22, 12, "the frozen-present flag")
+        self.broken(idle, {14: 1, 15: 1}, 22, 14, "an unused byte")
+        self.broken(idle, {5: 3}, 23, 5, "the receiver")
+        self.broken(idle, {8: 1}, 23, 8, "the bit index")
+        self.broken(receiving, {8: 129}, 23, 8, "the bit index")
+        self.broken(receiving, {8: 129, 6: 1}, 23, 6, "the number of packets expected")
+        self.broken(receiving, {18: 0x1F}, 23, 18, "the current packet")
+        self.broken(receiving, {143: 1}, 23, 143, "the packet store")
+        self.broken(awaiting, {7: 3}, 23, 6, "the number of packets expected")
+        self.broken(awaiting, {7: 0}, 23, 7, "the number of packets received")
+        self.broken(awaiting, {31: 1}, 23, 31, "the current packet")
+        self.broken(awaiting, {64: 1}, 23, 64, "the packet store")
+        self.broken(idle, {10: 4, 11: 9}, 24, 10, "the countdown")
+        self.broken(idle, {11: 1}, 24, 11, "the transfer's kind")
+        self.broken(idle, {9: 0}, 25, 144, "the preset")
+        self.broken(plain, {151: 1}, 25, 151, "the preset")
+        self.broken(idle, {0: 1}, 26, 0, "the mask mode")
+        self.broken(plain, {19939: 1}, 26, 19939, "the frozen capture")
+        # the first rule wins, whatever its offset
+        self.broken(idle, {15: 1, 5: 3}, 22, 15, "an unused byte")
+        self.broken(idle, {143: 1, 10: 4}, 23, 143, "the packet store")
+
+    def test_words(self):
+        block = bytearray(Unit.post_boot().block)
+        block[15180] = 0x1B
+        said = self.refused(26, Unit.load, block)
+        self.assertEqual(str(said), "rule V6 is broken at byte 15180 (0x3B4C), the frozen capture (refusal 26)")
+
+    def test_every_byte_has_a_name(self):
+        names = [field_text(at) for at in range(sporedrift.BLOCK)]
+        self.assertNotIn(None, names)
+        starts = [at for at in range(1, len(names)) if names[at] != names[at - 1]]
+        self.assertEqual(starts, [*range(1, 14), 16, 32, 144, 152, 184, 274, 4370, 8420, 14180, 19940, 28132, 29924])
+        for at in (-1, sporedrift.BLOCK, 1 << 64):
+            self.assertIsNone(field_text(at))
 
 
 class Play(Case):
@@ -336,8 +404,8 @@ class Finding(Case):
 
     def test_another_version(self):
         calls = importlib.import_module("sporedrift._calls")
-        for major, minor in ((1, 1), (0, 2)):
-            old = calls.MAJOR, calls.MINOR
+        old = calls.MAJOR, calls.MINOR
+        for major, minor in ((old[0] + 1, old[1]), (old[0], old[1] + 1)):
             calls.MAJOR, calls.MINOR = major, minor
             try:
                 with self.assertRaises(ImportError) as caught:

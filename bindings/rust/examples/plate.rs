@@ -10,6 +10,7 @@ fn tell(call: &str, answer: Result<Option<u32>, Refusal>) {
     match answer {
         Ok(Some(value)) => println!("{call}: {value:X}"),
         Ok(None) => println!("{call}: none"),
+        Err(refusal @ Refusal::Rule { .. }) => println!("{call}: {refusal}"),
         Err(refusal) => println!("{call}: refused {}", refusal.number()),
     }
 }
@@ -156,6 +157,13 @@ fn look(unit: &Unit) -> Result<Vec<Rgb555>, Refusal> {
     Ok(out)
 }
 
+/// A saved block in which one byte went bad, as a program tells it that takes up saved blocks.
+fn damage(unit: &Unit, at: usize, value: u8) {
+    let mut saved = unit.as_bytes().to_vec();
+    saved[at] = value;
+    tell("  check", Unit::load(&saved).map(|_| Some(0)));
+}
+
 /// A Portable Pixmap; the sum (FNV-1a) tells whether another program drew the same.
 fn write_picture(path: &str, picture: &[Rgb555]) -> std::io::Result<()> {
     let bytes: Vec<u8> = picture.iter().flat_map(|word| word.to_rgb8()).collect();
@@ -204,6 +212,11 @@ fn main() -> Result<(), Box<dyn Error>> {
     transfer(&mut unit, &map_page());
     println!("screen");
     show(&mut unit, &packed(|x, y| ((x / 16 + y / 12) % 4) as u8));
-    write_picture(&path, &look(&unit)?)?;
+    let picture = look(&unit)?;
+    println!("damaged");
+    for (at, value) in [(0, 4), (8, 129), (11, 1), (15_180, 0x1B), (19_940, 0xFF)] {
+        damage(&unit, at, value);
+    }
+    write_picture(&path, &picture)?;
     Ok(())
 }

@@ -1,13 +1,14 @@
 //! The calls of include/sporedrift.h over slices of the caller's own: the same calls and the same refusals, safe. No call asks anything
-//! of its caller but that a slice is one, which Rust sees to; none keeps what it is lent, and a refused call changes none of it.
+//! of its caller but that a slice is one, which Rust sees to; none keeps what it is lent, and a refused call changes none of it. Each has
+//! its refusals in the order in which they are tested, and the first that applies is given.
 //!
 //! ```
-//! use sporedrift::{BLOCK, Refusal, calls};
+//! use sporedrift::{BLOCK, Refusal, Rule, calls};
 //!
 //! let mut block = [0; BLOCK];
 //! assert_eq!(calls::check(&block), Ok(()));
 //! block[13] = 1;
-//! assert_eq!(calls::check(&block), Err(Refusal::Block));
+//! assert_eq!(calls::check(&block), Err(Refusal::Rule { rule: Rule::V2, offset: 13 }));
 //! calls::post_boot(&mut block)?;
 //! assert_eq!(calls::check(&block), Ok(()));
 //! # Ok::<(), Refusal>(())
@@ -83,7 +84,7 @@ mod c {
     }
 }
 
-// ---- an answer: 0 in the low byte for a value, which stands above it; a refusal's number; or 80 hex for none
+// ---- an answer: 0 in the low byte for a value, which stands above it; a refusal's number, with its offset above it; or 80 hex for none
 
 const NONE: u32 = 0x80;
 
@@ -91,7 +92,7 @@ fn optional(answer: u32) -> Result<Option<u32>, Refusal> {
     match answer & 0xFF {
         0 => Ok(Some(answer >> 8)),
         NONE => Ok(None),
-        number => Err(Refusal::of(number as u8)),
+        _ => Err(Refusal::of(answer)),
     }
 }
 
@@ -119,7 +120,7 @@ pub fn post_boot(block: &mut [u8]) -> Result<(), Refusal> {
     done(unsafe { c::sporedrift_post_boot(block.as_mut_ptr(), block.len()) })
 }
 
-/// Whether a saved block can be taken up. Refusals 1, 2.
+/// Whether a saved block can be taken up. Refusals 1, 21 to 26.
 pub fn check(block: &[u8]) -> Result<(), Refusal> {
     done(unsafe { c::sporedrift_check(block.as_ptr(), block.len()) })
 }
@@ -127,7 +128,7 @@ pub fn check(block: &[u8]) -> Result<(), Refusal> {
 // ---- what the game does
 
 /// A write to the joypad register: the packets of the command that it completes, whose bytes are then at the front of `command`.
-/// Refusals 1, 2, 6.
+/// Refusals 1, 21 to 26, 6.
 pub fn write_joypad(
     block: &mut [u8],
     value: u8,
@@ -145,7 +146,7 @@ pub fn write_joypad(
 }
 
 /// Joypad writes in a row, up to and with the first that completes a command: how many were taken, and the packets of the command,
-/// whose bytes are then at the front of `command`; 0 if none was completed. Refusals 1, 2, 6.
+/// whose bytes are then at the front of `command`; 0 if none was completed. Refusals 1, 21 to 26, 6.
 ///
 /// ```
 /// use sporedrift::{BLOCK, COMMAND, calls};
@@ -173,7 +174,7 @@ pub fn play(block: &mut [u8], writes: &[u8], command: &mut [u8]) -> Result<(usiz
     Ok((told as usize / 8, told % 8))
 }
 
-/// A screen: the transfer that it makes land. Refusals 1, 2, 3.
+/// A screen: the transfer that it makes land. Refusals 1, 21 to 26, 3.
 pub fn update_screen(block: &mut [u8], screen: &[u8]) -> Result<Option<Transfer>, Refusal> {
     let answer = unsafe {
         c::sporedrift_update_screen(
@@ -188,41 +189,41 @@ pub fn update_screen(block: &mut [u8], screen: &[u8]) -> Result<Option<Transfer>
 
 // ---- what the unit shows
 
-/// What the screen's part of the picture shows. Refusals 1, 2.
+/// What the screen's part of the picture shows. Refusals 1, 21 to 26.
 pub fn mask_mode(block: &[u8]) -> Result<MaskMode, Refusal> {
     value(unsafe { c::sporedrift_mask_mode(block.as_ptr(), block.len()) }).map(MaskMode::of)
 }
 
-/// The colour of everything that nothing covers. Refusals 1, 2.
+/// The colour of everything that nothing covers. Refusals 1, 21 to 26.
 pub fn backdrop(block: &[u8]) -> Result<Rgb555, Refusal> {
     value(unsafe { c::sporedrift_backdrop(block.as_ptr(), block.len()) }).map(colour)
 }
 
-/// The colour of a shade at column x of row y of the screen, whatever the mask. Refusals 1, 2, 4.
+/// The colour of a shade at column x of row y of the screen, whatever the mask. Refusals 1, 21 to 26, 4.
 pub fn color_at(block: &[u8], x: usize, y: usize, shade: u8) -> Result<Rgb555, Refusal> {
     value(unsafe { c::sporedrift_color_at(block.as_ptr(), block.len(), x, y, shade) }).map(colour)
 }
 
-/// The border's map word at a column of a row. Refusals 1, 2, 4.
+/// The border's map word at a column of a row. Refusals 1, 21 to 26, 4.
 pub fn map_entry(block: &[u8], column: usize, row: usize) -> Result<BorderMapEntry, Refusal> {
     value(unsafe { c::sporedrift_map_entry(block.as_ptr(), block.len(), column, row) })
         .map(|word| BorderMapEntry(word as u16))
 }
 
-/// The border's colour at column x of row y of the picture, none where it is transparent. Refusals 1, 2, 4.
+/// The border's colour at column x of row y of the picture, none where it is transparent. Refusals 1, 21 to 26, 4.
 pub fn border_color_at(block: &[u8], x: usize, y: usize) -> Result<Option<Rgb555>, Refusal> {
     let answer = unsafe { c::sporedrift_border_color_at(block.as_ptr(), block.len(), x, y) };
     Ok(optional(answer)?.map(colour))
 }
 
-/// Row y of the picture, into the first 256 words of `out`: that number. Refusals 1, 2, 4, 6.
+/// Row y of the picture, into the first 256 words of `out`: that number. Refusals 1, 21 to 26, 4, 6.
 pub fn row(block: &[u8], y: usize, out: &mut [Rgb555]) -> Result<u32, Refusal> {
     // an Rgb555 is its word (repr(transparent))
     let words: *mut u16 = out.as_mut_ptr().cast();
     value(unsafe { c::sporedrift_row(block.as_ptr(), block.len(), y, words, out.len()) })
 }
 
-/// The picture, into the first 57,344 words of `out`: that number. Refusals 1, 2, 6.
+/// The picture, into the first 57,344 words of `out`: that number. Refusals 1, 21 to 26, 6.
 pub fn picture(block: &[u8], out: &mut [Rgb555]) -> Result<u32, Refusal> {
     let words: *mut u16 = out.as_mut_ptr().cast();
     value(unsafe { c::sporedrift_picture(block.as_ptr(), block.len(), words, out.len()) })

@@ -23,14 +23,15 @@
 //! ```
 //!
 //! A unit's block is always valid, so most of its methods can't fail and answer a plain value. What may be refused is what a caller
-//! brings: a saved block, a screen, a place, a command, a line of a log. [`Refusal`] says why. [`calls`] has every call of the C header
-//! over slices of the caller's own.
+//! brings: a saved block, a screen, a place, a command, a line of a log. [`Refusal`] says why, and of a saved block also at which byte.
+//! [`calls`] has every call of the C header over slices of the caller's own.
 //!
 //! The crate links `libsporedrift`: see its README for where that is looked for.
 
 #![deny(missing_docs, missing_debug_implementations, unsafe_op_in_unsafe_fn)]
 
 pub mod calls;
+mod field;
 mod line;
 mod refusal;
 mod unit;
@@ -38,8 +39,9 @@ mod words;
 
 use std::fmt;
 
+pub use field::field_text;
 pub use line::{Line, lines, parse_line};
-pub use refusal::Refusal;
+pub use refusal::{Refusal, Rule};
 pub use unit::{Command, MaskMode, Played, Transfer, Unit};
 pub use words::{BorderMapEntry, Rgb555};
 

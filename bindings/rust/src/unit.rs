@@ -216,15 +216,15 @@ impl Unit {
         Unit { block }
     }
 
-    /// A unit that was saved. [`Refusal::Length`] or [`Refusal::Block`] if these bytes are not the block of one.
+    /// A unit that was saved. [`Refusal::Length`] or [`Refusal::Rule`] if these bytes are not the block of one.
     ///
     /// ```
-    /// use sporedrift::{BLOCK, Refusal, Unit};
+    /// use sporedrift::{Refusal, Rule, Unit};
     ///
     /// let mut saved = Unit::new().as_bytes().to_vec();
     /// assert!(Unit::load(&saved).is_ok());
     /// saved[0] = 4; // no mask mode
-    /// assert_eq!(Unit::load(&saved), Err(Refusal::Block));
+    /// assert_eq!(Unit::load(&saved), Err(Refusal::Rule { rule: Rule::V1, offset: 0 }));
     /// ```
     pub fn load(saved: &[u8]) -> Result<Self, Refusal> {
         calls::check(saved)?;

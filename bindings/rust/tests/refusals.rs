@@ -1,7 +1,8 @@
-//! Every refusal of every call over slices: the lowest number wins, and no lent byte changes.
+//! Every refusal of every call over slices: the block's come first, then the lowest number, and no lent byte changes. rules.rs has those
+//! of a broken rule.
 
 use sporedrift::{
-    BLOCK, COMMAND, LINE, PICTURE, Refusal, Rgb555, SCREEN, TILE, Unit, WIDTH, calls,
+    BLOCK, COMMAND, LINE, PICTURE, Refusal, Rgb555, Rule, SCREEN, TILE, Unit, WIDTH, calls,
 };
 
 fn blocks() -> [(Vec<u8>, Result<(), Refusal>); 4] {
@@ -10,9 +11,13 @@ fn blocks() -> [(Vec<u8>, Result<(), Refusal>); 4] {
     broken[13] = 1;
     let mut longer = broken.clone();
     longer.push(0);
+    let unused = Refusal::Rule {
+        rule: Rule::V2,
+        offset: 13,
+    };
     [
         (valid, Ok(())),
-        (broken, Err(Refusal::Block)),
+        (broken, Err(unused)),
         (longer, Err(Refusal::Length)),
         (vec![], Err(Refusal::Length)),
     ]
@@ -246,16 +251,16 @@ fn lines_that_are_none_change_nothing() {
 #[test]
 fn numbers_and_words() {
     let all = [
-        Refusal::Length,
-        Refusal::Block,
-        Refusal::Screen,
-        Refusal::Place,
-        Refusal::Command,
-        Refusal::Output,
-        Refusal::Line,
+        (Refusal::Length, 1),
+        (Refusal::Screen, 3),
+        (Refusal::Place, 4),
+        (Refusal::Command, 5),
+        (Refusal::Output, 6),
+        (Refusal::Line, 7),
     ];
-    for (refusal, number) in all.into_iter().zip(1..) {
+    for (refusal, number) in all {
         assert_eq!(refusal.number(), number);
+        assert_eq!(refusal.offset(), None);
         assert!(
             refusal
                 .to_string()
