@@ -3,3 +3,4 @@ pub mod Asking
 pub mod Inside
 pub mod Brokens
 pub mod Numbers
+pub mod Examples
