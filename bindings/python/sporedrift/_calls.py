@@ -14,7 +14,7 @@ from ._fields import field_text
 # The library that this module is written for: its first two numbers have to be these.
 MAJOR, MINOR = 0, 2
 
-NAMES = ("libsporedrift.so.0", "libsporedrift.so")
+NAMES = (f"libsporedrift.so.{MAJOR}.{MINOR}", "libsporedrift.so")
 WHAT_TO_DO = (
     "In the repository of Sporedrift run tools/export/lib, which makes it; or install it with tools/install PREFIX and set "
     "SPOREDRIFT_LIB to PREFIX/lib."
