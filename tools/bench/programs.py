@@ -1,4 +1,4 @@
-"""The two programs as these measures run them, each started and watched by watch.c."""
+"""The programs as these measures run them, each started and watched by watch.c."""
 
 import os
 import subprocess

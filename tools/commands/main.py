@@ -1,4 +1,4 @@
-"""main.py NAME ARGUMENTS..: the commands of bin/, draw, plate, ppm and replay. Their help is in the folder help/."""
+"""main.py NAME ARGUMENTS..: the commands of bin/, check, draw, plate, ppm and replay. Their help is in the folder help/."""
 
 import os
 import signal
@@ -8,12 +8,14 @@ sys.dont_write_bytecode = True
 sys.path.insert(0, os.path.dirname(os.path.realpath(__file__)))
 
 import program
+import saved
 from pictures import PLATE, NoPlate, picture
-from talk import CALLED, Failed, arguments, cant_write, opened, put, say, stand_up
+from talk import CALLED, Failed, arguments, cant_write, opened, put, say, shown, stand_up
 from target import Target, descriptor
 
 FORMS = {".png": "png", ".ppm": "ppm"}
 USAGE = {
+    "check": f"{CALLED}check BLOCK..",
     "draw": f"{CALLED}draw [--png | --ppm] LOG PICTURE",
     "plate": f"{CALLED}plate [LOG]",
     "ppm": f"{CALLED}ppm [--png | --ppm] [PLATE] >PICTURE",
@@ -105,6 +107,33 @@ def draw(name, words, closed):
     return 0
 
 
+def check(name, words, closed):
+    """A line a file: the program's verdict, and what is wrong. What can't be read has its line too."""
+    _, names = arguments(name, words, (), closed)
+    if not names:
+        raise Failed(2, f"no block given: {USAGE[name]}, or - for standard input")
+    if names.count("-") > 1:
+        raise Failed(2, "- is given twice, and standard input can be read once")
+    if 1 in closed:
+        raise Failed(1, "standard output is closed")
+    status, run = 0, None
+    for each in names:
+        try:
+            data, size = saved.taken(each, closed)
+            # built only where there is something to judge
+            run = run or program.command(name, name)
+            number, offset = saved.judged(run, name, data)
+            line = saved.told(number, offset, data, size)
+        except saved.NoBytes as why:
+            number, line = None, str(why)
+        status = status if number == 0 else 1
+        try:
+            put(1, os.fsencode(f"{shown(each)}: {line}\n"))
+        except OSError as why:
+            raise Failed(1, cant_write(why))
+    return status
+
+
 def only_form(options):
     """The form that the options ask for, or None."""
     if len(set(options)) > 1:
@@ -133,7 +162,7 @@ def main():
         if signal.getsignal(number) != signal.SIG_IGN:
             signal.signal(number, lambda n, _: sys.exit(128 + n))
     try:
-        status = {"draw": draw, "plate": play, "ppm": ppm, "replay": play}[name](name, words, closed)
+        status = {"check": check, "draw": draw, "plate": play, "ppm": ppm, "replay": play}[name](name, words, closed)
     except Failed as why:
         if why.text:
             say(name, why.text)

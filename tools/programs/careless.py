@@ -67,6 +67,16 @@ def after(out, said, status):
         said = re.sub(rb".* more lines? .*\n", b"", said)
     if fault == "two-words" and said:
         said += b"plate: it has failed\n"
+    if fault == "words-lost":
+        out = re.sub(rb"( at \d+): .*", rb"\1", out)
+    if fault == "hex-lost":
+        out = re.sub(rb" \(hex [0-9A-F]+\)", b"", out)
+    if fault == "sorted":
+        out = b"".join(sorted(out.splitlines(keepends=True)))
+    if fault == "ends-there":
+        out = re.sub(rb"(: no such file\n).*", rb"\1", out, flags=re.S)
+    if fault == "plain-names":
+        out = out.decode("ascii", "replace").encode()
     if fault == "chatty" and words[-1:] == ["-"] and status == 0:
         out += b"draw: -\n"
     return out, said, 0 if fault == "no-status" else status

@@ -515,7 +515,7 @@ echo "rt: ok, all crates proved"
         for name in ("crates.txt", "VERSION", "tools/programs/start"):
             shutil.copy(os.path.join(ROOT, name), os.path.join(self.root, name))
         self.crates = self.below("plate")
-        for name in [*self.crates, *self.below("replay"), "plate", "replay"]:
+        for name in [*self.crates, *self.below("replay"), *self.below("check_block"), "plate", "replay", "check_block"]:
             os.makedirs(os.path.join(self.root, "crates", name), exist_ok=True)
         kit = os.path.join(folder, "kit")
         machine = os.path.join(kit, "on", os.uname().machine, "toolchain", "lib")
@@ -524,7 +524,7 @@ echo "rt: ok, all crates proved"
         write(os.path.join(kit, "KIT-ID"))
         write(os.path.join(machine, "ld-linux-x86-64.so.2"), b'#!/bin/sh\nshift 2\nexec "$@"\n', 0o755)
         write(os.path.join(kit, "bin", "rt"), self.RT.encode(), 0o755)
-        self.env = {"PATH": f"{kit}/bin:{os.environ['PATH']}", "RATTLE_HOME": kit, "RT": "rt", "REPLAY": "", "PLATE": ""}
+        self.env = {"PATH": f"{kit}/bin:{os.environ['PATH']}", "RATTLE_HOME": kit, "RT": "rt", "REPLAY": "", "PLATE": "", "CHECK": ""}
         self.env.update(MARK=self.mark, CRATES=" ".join(self.crates))
 
     def below(self, name):
@@ -566,6 +566,21 @@ def building(t, p, few=False):
         t.check("a first build: then the program runs", ended.status == 0 and ended.out == b"BUILT\n" and b"noise" not in ended.said, ended.show)
         ended = call("plate", "a.log")
         t.check("a second run builds nothing", ended.status == 0 and ended.out == b"BUILT\n" and not ended.said, ended.show)
+        check_built(t, fake, call)
+
+
+def check_built(t, fake, call):
+    """bin/check builds the crate of its program once there is a block to look at."""
+    built = os.path.join(fake.root, "target", "bin", "check_block")
+    ended = call("check", "none", ".")
+    well = ended.status == 1 and ended.out == b"none: no such file\n.: a folder, and no block\n" and not ended.said
+    t.check("bin/check: nothing is built where nothing can be read", well and not os.path.exists(built), ended.show)
+    for time in ("first", "second"):
+        ended = call("check", "a.log", CRATES=" ".join(fake.below("check_block")))
+        said = ended.said.decode().split("\n")
+        building = [line for line in said if line.startswith(("check: proving and compiling check first", "    1 of "))]
+        well = ended.status == 1 and said[-2].startswith("check: what the program check prints is no verdict") and os.path.exists(built)
+        t.check(f"bin/check: a {time} build", well and len(building) == (2 if time == "first" else 0), ended.show)
 
 
 def first_words(t, fake, call, folder):
@@ -584,6 +599,10 @@ def first_words(t, fake, call, folder):
         (("draw", "a.log", "."), 2),
         (("draw", "a.log", "a.tiff"), 2),
         (("draw", "a.log", "none/a.ppm"), 1),
+        (("check",), 2),
+        (("check", "--jpg", "a.log"), 2),
+        (("check", "-", "-"), 2),
+        (("check", "--help"), 0),
         (("replay", "--help"), 0),
         (("plate", "--version"), 0),
         (("draw", "--help"), 0),

@@ -211,7 +211,7 @@ def asked(t, p):
     """--help and --version, and options that are none."""
     with open(os.path.join(p.root, "VERSION"), "rb") as file:
         version = file.read()
-    for name in ("draw", "plate", "ppm", "replay"):
+    for name in ("check", "draw", "plate", "ppm", "replay"):
         ended = p.bin(name, "--version")
         t.same(f"bin/{name}: --version", ended, name.encode() + b" (Sporedrift) " + version)
         ended = p.bin(name, "--help")

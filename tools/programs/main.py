@@ -1,4 +1,4 @@
-"""Runs the suites on both programs; `run` beside this tells of the words. Its last line is 'N passed, M failed'."""
+"""Runs the suites on the programs; `run` beside this tells of the words. Its last line is 'N passed, M failed'."""
 
 import argparse
 import os
@@ -14,6 +14,7 @@ ROOT = os.path.dirname(os.path.dirname(HERE))
 sys.path.insert(0, HERE)
 
 import answers
+import checks
 import commands
 import failures
 from process import Runner, brief
@@ -31,6 +32,8 @@ SUITES = {
     "drawing": commands.drawing,
     "reasons": commands.reasons,
     "building": commands.building,
+    "blocks": checks.blocks,
+    "checking": checks.checking,
 }
 # Each fault of wrong.py, by program and suite, on which the suite must fail: a test that can't fail tells nothing.
 FAULTS = {
@@ -56,6 +59,8 @@ FAULTS = {
     ("replay", "reasons agreement"): "blanks",
     ("plate", "reasons of_plates"): "goes-on",
     ("plate", "drawing failing"): "no-refusals",
+    ("check", "blocks"): "all-valid next-offset no-offset long-taken first-read-alone reads-unseen writes-unseen no-lf",
+    ("check", "checking many"): "all-valid",
 }
 
 
@@ -75,6 +80,10 @@ CARELESS = {
     ("replay", "reasons many"): "more-lost",
     ("replay", "words named"): "no-dash no-dashes",
     ("replay", "words wrongly"): "no-status",
+    ("check", "checking many"): "no-status words-lost hex-lost sorted",
+    ("check", "checking unread"): "ends-there",
+    ("check", "checking oddly"): "no-dashes plain-names",
+    ("check", "checking inputs"): "no-dash",
 }
 
 
@@ -123,7 +132,7 @@ class Report:
 
 
 class Programs:
-    """The two programs, alone and by bin/, and the Rust driven by the same log."""
+    """The programs, alone and by bin/, and the Rust driven by the same log."""
 
     def __init__(self, options, words, env=None, limit=None, commands=None):
         self.root, self.seed, self.scale = ROOT, options.seed, options.scale
@@ -221,7 +230,7 @@ def main():
     o = options()
     # the commands run by the python that runs this, and not by way of a manager of versions, which takes its time
     os.environ["PATH"] = os.pathsep.join((os.path.dirname(sys.executable), os.environ["PATH"]))
-    words = {name: words_of(name) for name in ("replay", "plate")}
+    words = {name: words_of(name) for name in ("replay", "plate", "check")}
     programs = Programs(o, words)
     passed = failed = 0
     for name in o.suite or [*SUITES, "faults"]:

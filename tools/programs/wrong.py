@@ -76,6 +76,8 @@ def given(log):
     if fault == "up-to-the-fault":
         digits = [re.match(rb"(?:[0-9A-Fa-f]{2})*", line).group() for line in lines]
         lines = [d if d.startswith(b"01") and len(d) <= 11522 else line for d, line in zip(digits, lines)]
+    if fault == "long-taken":
+        return log[:30020]
     return b"\n".join(lines)
 
 
@@ -94,6 +96,12 @@ def printed(text):
         lines = [line for line in lines if not line.startswith(b"line")]
     if fault == "fifteen-bits":
         lines = [re.sub(rb"([89A-F])(...)", lambda m: b"%X" % (int(m[1], 16) - 8) + m[2], line) if len(line) > 1000 else line for line in lines]
+    if fault == "all-valid":
+        lines = [b"valid\n"]
+    if fault == "next-offset":
+        lines = [re.sub(rb"at (\d+)", lambda m: b"at %d" % (int(m[1]) + 1), line) for line in lines]
+    if fault == "no-offset":
+        lines = [re.sub(rb" at \d+", b"", line) for line in lines]
     if fault == "no-lf":
         lines[-1:] = [line[:-1] for line in lines[-1:]]
     return b"".join(lines)

@@ -10,12 +10,11 @@ use Rattle.layout.specs.Block.{load}
 use Rattle.picture.specs.Picture.{rowOf}
 use Rattle.block_picture.specs.Drawn.{partsOf}
 use Rattle.log_text.specs.Text.{rowLine}
-use Rattle.log_text.proofs.Printed.{length-rowLine}
+use Rattle.log_text.proofs.Printed.{text-lent, length-rowLine}
 use Rattle.log_writer.specs.Tally.{tallied, Sent}
 use Rattle.log_writer.proofs.Tallies.{sent-more, sent-cut}
 use Rattle.log.specs.Texts.{rowLines, pictureLines}
 use Rattle.log.proofs.Coded.{row-long}
-use Rattle.log_reader.proofs.Printing.{text-lent}
 
 module _ (b : List ℕ) (t : ℕ) where
   abbrev row : ℕ → List ℕ

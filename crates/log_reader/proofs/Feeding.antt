@@ -10,6 +10,7 @@ use lib.ListN.{length, take, drop}
 use lib.Seq.{drop-length}
 use Rattle.bits.specs.Over.{over}
 use Rattle.parts.specs.Parts.{captureBytes}
+use Rattle.log_text.proofs.Printed.{text-lent}
 use Rattle.log_writer.specs.Tally.{tallied, Sent}
 use Rattle.log.specs.Events.{Event}
 use Rattle.log.specs.Texts.{shown}
@@ -24,7 +25,7 @@ use Rattle.log_reader.specs.Read.{textOf, Unrefused, Stopped, isWell, To
 use Rattle.log_reader.specs.declared.Fed.{Fed}
 use Rattle.log_writer.specs.declared.State.{State}
 use Rattle.log_writer.specs.declared.State.the-variants.{Well, Failed, Refused}
-use Rattle.log_reader.proofs.Printing.{text-none, text-quiet, text-lent, printed-on, printed-cut, passed-on, stopped-on, shape-passed, shape-stopped}
+use Rattle.log_reader.proofs.Printing.{text-none, text-quiet, printed-on, printed-cut, passed-on, stopped-on, shape-passed, shape-stopped}
 
 pub record Turn (quiet : Bool) (p : Point) (chunk : List ℕ) (q : Point) (at : ℕ) : Type 0 where
   pub events : List Event

@@ -1,12 +1,10 @@
 -- Texts one after the other: what was written goes on by what is written, and a refusal ends a plate wherever it stands.
-use mathlib.Core.Path.{_≡_, refl, sym, ap, ap₂, _∙_}
+use mathlib.Core.Path.{_≡_, refl, sym, ap, _∙_}
 use mathlib.Core.Bool.{Bool, true, false, false≢true}
 use mathlib.Core.List.{List, [], _∷_, _++_, append-assoc}
-use Prim.Native.Nat.{ℕ, _+_, _-_}
-use native.Mathlib.Omega.{arith}
+use Prim.Native.Nat.{ℕ, _+_}
 use lib.ListN.{length, take, drop, take-append-drop}
 use lib.Seq.{take-at, take-append-add}
-use Rattle.bits.specs.Over.{over}
 use Rattle.log_writer.specs.Tally.{tallied}
 use Rattle.log_writer.proofs.Tallies.{tallied-append}
 use Rattle.log.specs.Events.{Event}
@@ -29,12 +27,6 @@ pub text-append : (quiet : Bool) (es fs : List Event) → textOf quiet (es ++ fs
 unfolding textOf
 text-append true es fs = refl
 text-append false es fs = shown-append es fs
-
--- what `&out[0..n]` lends of an output that begins with a text of n bytes
-pub text-lent : (text out out′ : List ℕ) (n : ℕ) → length text ≡ n → out′ ≡ over 0 n text out → take (n - 0) (drop 0 out′) ≡ text
-text-lent text out out′ n h e =
-    let z : n - 0 ≡ n = omega arith in
-    ap₂ (λ (m : ℕ) (l : List ℕ). take m l) z e ∙ take-at text (drop n out) n h
 
 -- ---- tallies
 

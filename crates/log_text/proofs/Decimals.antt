@@ -8,7 +8,7 @@ use native.Mathlib.Nat.{pow-le-pow-right, not-le-of-lt, le-trans}
 use borrow.Author.Tests.{ltb-true, ltb-false}
 use lib.Dec.{ltb}
 use Rattle.io.specs.Digits.{digits, Fewest}
-use Rattle.log_text.specs.Text.{placesFrom, decimalText, refusalOf, refusalText}
+use Rattle.log_text.specs.Text.{placesFrom, decimalText}
 
 -- a number below 10 to the k takes no more than k digits
 pub not-more : (n k r : ℕ) → 1 ≤ k → n < 10 ^ k → Fewest 10 1 n r → r ≤ k
@@ -36,6 +36,6 @@ places-found (suc more) k n r h1 hk hr f = go (ltb n (10 ^ k)) refl (λ h. place
           let p : 10 ^ r ≤ 10 ^ k = pow-le-pow-right {n = 10} (omega arith) {i = r} {j = k} g in
           absurd (not-le-of-lt (f .1) (le-trans p l))
 
-pub decimal-found : (n r : ℕ) (t : List ℕ) → r ≤ 20 → Fewest 10 1 n r → t ≡ digits 10 r n → refusalOf t ≡ refusalText n
-unfolding refusalText decimalText
-decimal-found n r t h f e = ap refusalOf (e ∙ ap (λ (k : ℕ). digits 10 k n) (sym (places-found 19 1 n r (omega arith) (f .0) (omega arith) f)))
+pub decimal-found : (n r : ℕ) (t : List ℕ) → r ≤ 20 → Fewest 10 1 n r → t ≡ digits 10 r n → t ≡ decimalText n
+unfolding decimalText
+decimal-found n r t h f e = e ∙ ap (λ (k : ℕ). digits 10 k n) (sym (places-found 19 1 n r (omega arith) (f .0) (omega arith) f))

@@ -1,18 +1,26 @@
 -- The lines put together from their parts, and how long they are.
-use Prim.Native.Nat.{ℕ, _+_, _*_, _≤_, _<_}
-use mathlib.Core.Path.{_≡_, refl, ap, sym, _∙_}
+use Prim.Native.Nat.{ℕ, _+_, _-_, _*_, _≤_, _<_}
+use mathlib.Core.Path.{_≡_, refl, ap, ap₂, sym, _∙_}
 use mathlib.Core.List.{List, [], _∷_, _++_, append-assoc, append-nil}
 use native.Mathlib.Nat.{zero-add}
 use native.Mathlib.Numerals.{add-one}
 use native.Mathlib.Omega.{arith}
-use lib.ListN.{length, getD, set, take, length-append}
-use lib.Seq.{take-suc, take-length, length-take-le}
+use lib.ListN.{length, getD, set, take, drop, length-append}
+use lib.Seq.{take-at, take-suc, take-length, length-take-le}
 use Rattle.bits.specs.Over.{over}
 use Rattle.bits.specs.Word.{lowByte, highByte}
 use Rattle.bits.proofs.Overs.{over-over, set-over}
 use Rattle.hex.specs.Hex.{hexText}
 use Rattle.hex.proofs.Writing.{length-hexText}
 use Rattle.log_text.specs.Text.{lf, hexLine, refusalOf, wordText, wordsText, rowLine}
+
+-- ---- a text at the front of an output
+
+-- what `&out[0..n]` lends of an output that begins with a text of n bytes
+pub text-lent : (text out out′ : List ℕ) (n : ℕ) → length text ≡ n → out′ ≡ over 0 n text out → take (n - 0) (drop 0 out′) ≡ text
+text-lent text out out′ n h e =
+    let z : n - 0 ≡ n = omega arith in
+    ap₂ (λ (m : ℕ) (l : List ℕ). take m l) z e ∙ take-at text (drop n out) n h
 
 -- ---- bytes on a line
 

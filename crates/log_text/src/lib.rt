@@ -1,10 +1,10 @@
-// The lines that the programs print: a command, a refusal, a row of the picture. RULES 8.5 and 8.6. Nothing here
+// The lines that the programs print, a command, a refusal, a row of the picture; and a number in decimal. RULES 8.5 and 8.6. Nothing here
 // writes to anywhere but the lent text; the meaning is in specs/Text.
 ghost use mathlib.Core.Path.{_≡_};
 ghost use Prim.Native.Nat.{_+_, _*_, _≤_};
 ghost use lib.ListN.{length};
 ghost use Rattle.bits.specs.Over.{over};
-ghost use Rattle.log_text.specs.Text.{hexLine, refusalOf, refusalText, wordText, rowLine};
+ghost use Rattle.log_text.specs.Text.{hexLine, decimalText, refusalText, wordText, rowLine};
 use bits::high_byte;
 use bits::low_byte;
 use bits::put;
@@ -23,6 +23,19 @@ pub fn command_line(command: &[u8], out: &mut [u8], at: usize) -> usize
     n + 1
 }
 
+// A number in decimal, from `at` on. Answers how many digits it has.
+pub fn decimal(number: u64, out: &mut [u8], at: usize) -> usize
+    requires { ⌜ at + 20 ≤ length (now out) ⌝ }
+    ensures { λ r. ⌜ r ≡ length (decimalText number) ⌝ }
+    ensures { λ r. ⌜ r ≤ 20 ⌝ }
+    ensures { λ r. ⌜ now (out .exit) ≡ over at (length (decimalText number)) (decimalText number) (now (out .entry)) ⌝ }
+{
+    let mut digits = [0u8; 20];
+    let k = io::decimal(number, &mut digits);
+    put(out, at, &digits[0..k]);
+    k
+}
+
 // `line N: 7` and LF, from `at` on. Answers the text's length.
 pub fn refusal_line(number: u64, out: &mut [u8], at: usize) -> usize
     requires { ⌜ at + 29 ≤ length (now out) ⌝ }
@@ -30,22 +43,8 @@ pub fn refusal_line(number: u64, out: &mut [u8], at: usize) -> usize
     ensures { λ r. ⌜ r ≤ 29 ⌝ }
     ensures { λ r. ⌜ now (out .exit) ≡ over at (length (refusalText number)) (refusalText number) (now (out .entry)) ⌝ }
 {
-    let mut digits = [0u8; 20];
-    let k = io::decimal(number, &mut digits);
-    refusal_of(&digits[0..k], out, at)
-}
-
-// `line `, the digits, `: 7` and LF.
-fn refusal_of(digits: &[u8], out: &mut [u8], at: usize) -> usize
-    requires { ⌜ length (now digits) ≤ 20 ⌝ }
-    requires { ⌜ at + 29 ≤ length (now out) ⌝ }
-    ensures { λ r. ⌜ r ≡ length (refusalOf (now (digits .entry))) ⌝ }
-    ensures { λ r. ⌜ r ≤ 29 ⌝ }
-    ensures { λ r. ⌜ now (out .exit) ≡ over at (length (refusalOf (now (digits .entry)))) (refusalOf (now (digits .entry))) (now (out .entry)) ⌝ }
-{
-    let n = digits.len();
     put(out, at, b"line ");
-    put(out, at + 5, digits);
+    let n = decimal(number, out, at + 5);
     put(out, at + 5 + n, b": 7\n");
     n + 9
 }

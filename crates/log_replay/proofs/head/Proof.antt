@@ -8,7 +8,7 @@ use native.Mathlib.Omega.{arith}
 use Rattle.bits.specs.Over.{over}
 use Rattle.log.specs.Texts.{headLine}
 use Rattle.log_writer.specs.Tally.{Sent}
-use Rattle.log_reader.proofs.Printing.{text-lent}
+use Rattle.log_text.proofs.Printed.{text-lent}
 use Rattle.log_replay.proofs.head.Statement.{statement}
 use Rattle.log_replay.proofs.head.Tie as tie
 
