@@ -3,23 +3,24 @@ stands here only chooses words for it, by the bytes that the rule is about. docs
 
 BLOCK = 30020
 MASK, INDEX, PADS, P15, BOTH, RECEIVER, EXPECTED, RECEIVED, BITS, PRESET_ON, COUNTDOWN, KIND, FROZEN_ON = range(13)
+# By the names that the header, the wrapper and the module have (tools/export/places).
 FIELDS = (
     "the mask mode",
     "the joypad index",
     "the joypad mask",
-    '"P15 high"',
-    '"both high"',
+    "the P15-high flag",
+    "the both-high flag",
     "the receiver",
-    '"expected"',
-    '"received"',
+    "the number of packets expected",
+    "the number of packets received",
     "the bit index",
-    '"preset in force"',
+    "the preset-in-force flag",
     "the countdown",
-    "the kind",
-    '"frozen present"',
+    "the transfer's kind",
+    "the frozen-present flag",
 )
 SPARE, PACKET, STORE, PRESET, FROZEN = range(13, 16), range(16, 32), range(32, 144), range(144, 152), range(14180, 19940)
-PARTS = {SPARE: "the spare bytes", PACKET: "the current packet", STORE: "the packet store", PRESET: "the preset", FROZEN: "the frozen capture"}
+PARTS = {SPARE: "the unused bytes", PACKET: "the current packet", STORE: "the packet store", PRESET: "the preset", FROZEN: "the frozen capture"}
 STATES = ("idle", "receiving a packet", "awaiting a packet")
 MODES = ("shown", "frozen", "black", "backdrop")
 
