@@ -2,11 +2,13 @@
 // where is the crate `block_broken`; it is asked only of a block that is not valid, so that a valid one is checked as quickly as without it.
 // The meaning is `Broken` in the crate `broken`.
 ghost use mathlib.Core.Path.{_≡_};
-ghost use Prim.Native.Nat.{_-_, _/_, _^_, _≤_};
+ghost use Prim.Native.Nat.{_-_, _/_, _^_, _<_, _≤_};
+ghost use lib.Dec.{leb};
 ghost use lib.ListN.{length};
-ghost use Rattle.parts.specs.Parts.{blockBytes, packetAt, packetBytes};
+ghost use Rattle.parts.specs.Parts.{blockBytes, headerBytes, packetAt, packetBytes};
+ghost use Rattle.layout.specs.Block.{byte};
 ghost use Rattle.bits.specs.Over.{part};
-ghost use Rattle.broken.specs.Broken.{asked, byteOf, lower, lowest, zeroFrom, clearFrom};
+ghost use Rattle.broken.specs.Broken.{asked, zeroAt, byteOf, lower, lowest, zeroFrom, clearFrom};
 ghost use Rattle.block_found.specs.Found.{foundTold, firstSet};
 use bits::all_zero;
 
@@ -20,6 +22,21 @@ pub fn unless(holds: bool, at: u16) -> Found
     ensures { λ r. ⌜ foundTold r ≡ byteOf (asked at holds) ⌝ }
 {
     if holds { Found::Nothing } else { Found::At(at) }
+}
+
+// A byte of the header that is to be at most so much, and one that is to be zero.
+pub fn at_most(block: &[u8], at: usize, most: u8) -> Found
+    requires { ⌜ (length (now block) ≡ blockBytes) × (at < headerBytes) ⌝ }
+    ensures { λ r. ⌜ foundTold r ≡ byteOf (asked at (leb (byte at (now (block .entry))) most)) ⌝ }
+{
+    unless(block[at] <= most, at as u16)
+}
+
+pub fn zero_at(block: &[u8], at: usize) -> Found
+    requires { ⌜ (length (now block) ≡ blockBytes) × (at < headerBytes) ⌝ }
+    ensures { λ r. ⌜ foundTold r ≡ byteOf (zeroAt at (now (block .entry))) ⌝ }
+{
+    unless(block[at] == 0, at as u16)
 }
 
 pub fn lower(a: Found, b: Found) -> Found

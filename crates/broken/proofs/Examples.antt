@@ -34,7 +34,7 @@ pub of-v3 : At 3 5 (port (3 ∷ 1 ∷ [])) × (At 3 7 (port (0 ∷ 0 ∷ 1 ∷ 1
 unfolding broken firstOf brokenOr asks1 asks2 asks3 asksOf resting coming first between later stageOf countOf codeOf zeroFrom clearFrom lowest lower byteOf
 of-v3 = (refl, (refl, (refl, (refl, (refl, refl)))))
 
--- V4: the countdown over 3, whatever the kind; a kind with no countdown. V5, V6: a preset that is not in force; a freeze without a capture
-pub of-the-others : At 4 10 (replicate 10 0 ++ (4 ∷ 9 ∷ [])) × (At 4 11 (replicate 11 0 ++ (1 ∷ [])) × (At 5 145 (replicate 145 0 ++ (7 ∷ [])) × At 6 0 (1 ∷ [])))
+-- V4: the countdown over 3, whatever the kind; a kind with no countdown. V6: a freeze without a capture
+pub of-the-others : At 4 10 (replicate 10 0 ++ (4 ∷ 9 ∷ [])) × (At 4 11 (replicate 11 0 ++ (1 ∷ [])) × At 6 0 (1 ∷ []))
 unfolding broken firstOf brokenOr asks1 asks2 asks3 asks4 asks5 asks6 asksOf resting maskAllows stageOf zeroFrom lowest lower byteOf
-of-the-others = (refl, (refl, (refl, refl)))
+of-the-others = (refl, (refl, refl))

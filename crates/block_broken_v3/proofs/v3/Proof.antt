@@ -11,8 +11,8 @@ use Rattle.block_receiver.proofs.Bytes.{part-bytes}
 use Rattle.broken.specs.Broken.{between, later, asks3, asksOf, byteOf, lower, lowest}
 use Rattle.broken.proofs.Lowest.{lowest-append}
 use Rattle.block_found.specs.Found.{foundTold}
-use Rattle.block_broken.proofs.v3.Statement.{statement}
-use Rattle.block_broken.proofs.v3.Tie as tie
+use Rattle.block_broken_v3.proofs.v3.Statement.{statement}
+use Rattle.block_broken_v3.proofs.v3.Tie as tie
 
 shared-slice-read-stage : tie.Need-shared-slice-read-stage
 shared-slice-read-stage c = search needs

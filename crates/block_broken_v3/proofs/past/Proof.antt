@@ -10,8 +10,8 @@ use Rattle.bits.specs.Over.{part}
 use Rattle.bits.proofs.Overs.{drop-part}
 use Rattle.broken.specs.Broken.{zeroFrom, lowest}
 use Rattle.block_found.specs.Found.{foundTold}
-use Rattle.block_broken.proofs.past.Statement.{statement}
-use Rattle.block_broken.proofs.past.Tie as tie
+use Rattle.block_broken_v3.proofs.past.Statement.{statement}
+use Rattle.block_broken_v3.proofs.past.Tie as tie
 
 returns : tie.Need-returns
 unfolding foundTold zeroFrom lowest

@@ -2,8 +2,8 @@
 use borrow.Author.Needs.{needs}
 use mathlib.Core.Path.{ap₂, _∙_}
 use Rattle.broken.specs.Broken.{between, lower, lowest}
-use Rattle.block_broken.proofs.between.Statement.{statement}
-use Rattle.block_broken.proofs.between.Tie as tie
+use Rattle.block_broken_v3.proofs.between.Statement.{statement}
+use Rattle.block_broken_v3.proofs.between.Tie as tie
 
 zero-at-requires : tie.Need-zero-at-requires
 zero-at-requires c κs = search needs

@@ -5,8 +5,8 @@ use denote.Ref.{now}
 use Rattle.parts.specs.Parts.{packetAt, packetBytes, storeAt, storeBytes}
 use Rattle.broken.specs.Broken.{zeroIn, resting, lower, lowest}
 use Rattle.broken.proofs.Lowest.{lowest-append}
-use Rattle.block_broken.proofs.resting.Statement.{statement}
-use Rattle.block_broken.proofs.resting.Tie as tie
+use Rattle.block_broken_v3.proofs.resting.Statement.{statement}
+use Rattle.block_broken_v3.proofs.resting.Tie as tie
 
 set-in-requires : tie.Need-set-in-requires
 set-in-requires c κs = search needs

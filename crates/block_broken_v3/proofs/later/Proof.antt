@@ -6,8 +6,8 @@ use lib.Dec.{eqb}
 use lib.ListN.{getD}
 use Rattle.parts.specs.Parts.{expectedAt}
 use Rattle.broken.specs.Broken.{later, asked, byteOf, lower, lowest}
-use Rattle.block_broken.proofs.later.Statement.{statement}
-use Rattle.block_broken.proofs.later.Tie as tie
+use Rattle.block_broken_v3.proofs.later.Statement.{statement}
+use Rattle.block_broken_v3.proofs.later.Tie as tie
 
 shared-slice-read-received : tie.Need-shared-slice-read-received
 shared-slice-read-received c = search needs

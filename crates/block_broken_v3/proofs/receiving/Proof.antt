@@ -4,8 +4,8 @@ use borrow.Author.Tests.{eq-eqb, ne-eqb}
 use mathlib.Core.Path.{ap₂, sym, _∙_}
 use Rattle.broken.specs.Broken.{asksOf, lower}
 use Rattle.broken.proofs.Lowest.{lowest-append}
-use Rattle.block_broken.proofs.receiving.Statement.{statement}
-use Rattle.block_broken.proofs.receiving.Tie as tie
+use Rattle.block_broken_v3.proofs.receiving.Statement.{statement}
+use Rattle.block_broken_v3.proofs.receiving.Tie as tie
 
 shared-slice-read-if1 : tie.Need-shared-slice-read-if1
 shared-slice-read-if1 c = search needs

@@ -2,8 +2,8 @@
 use borrow.Author.Needs.{needs}
 use mathlib.Core.Path.{ap₂, _∙_}
 use Rattle.broken.specs.Broken.{coming, lower, lowest}
-use Rattle.block_broken.proofs.coming.Statement.{statement}
-use Rattle.block_broken.proofs.coming.Tie as tie
+use Rattle.block_broken_v3.proofs.coming.Statement.{statement}
+use Rattle.block_broken_v3.proofs.coming.Tie as tie
 
 at-most-requires : tie.Need-at-most-requires
 at-most-requires c κs = search needs
