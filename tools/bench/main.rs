@@ -1,11 +1,13 @@
-//! Times jobs of Sporedrift beside the same jobs of the Rust. In a turn each side runs once, one after the other, so that a busy or
-//! slow moment meets both. A round has several turns and tells one ratio, of the best time of each side; the middle one of the
-//! rounds' ratios counts, and the least and the greatest show how far to trust it. Answers are compared before anything is timed.
+//! Times jobs of Sporedrift beside the same jobs of the Rust, and the check of refused blocks beside that of valid ones. In a turn each
+//! side runs once, one after the other, so that a busy or slow moment meets both. A round has several turns and tells one ratio, of the
+//! best time of each side; the middle one of the rounds' ratios counts, and the least and the greatest show how far to trust it. Answers
+//! are compared before anything is timed.
 
 // of tools/oracle, beside which `run` puts this: its parts stand ready for every job
 #![allow(dead_code, unused_imports)]
 
 mod block;
+mod broken;
 mod driver;
 mod event;
 mod generate;
@@ -30,7 +32,15 @@ pub struct Job {
     pub name: &'static str,
     pub limit: f64,
     pub port: Turn,
-    pub rust: Turn,
+    /// What it is held to: the Rust, or another run of ours.
+    pub other: Turn,
+}
+
+/// Jobs whose times are printed below one heading, in units of which a microsecond has so many.
+pub struct Table {
+    pub heading: &'static str,
+    pub units: f64,
+    pub jobs: Vec<Job>,
 }
 
 /// The time of one of `n` runs.
@@ -42,13 +52,23 @@ pub fn each<T>(n: usize, mut run: impl FnMut(usize) -> T) -> f64 {
 
 fn main() {
     let asked: Vec<String> = std::env::args().skip(1).collect();
-    println!("| job | ours, us | the Rust, us | ratio | least to greatest | at most |");
-    println!("|---|---|---|---|---|---|");
-    let mut missed = 0;
-    for mut job in jobs::all() {
-        if asked.is_empty() || asked.iter().any(|a| job.name.starts_with(a.as_str())) {
-            missed += usize::from(!measure(&mut job));
+    let is_asked =
+        |job: &Job| asked.is_empty() || asked.iter().any(|a| job.name.starts_with(a.as_str()));
+    let (mut missed, mut gap) = (0, "");
+    for mut table in jobs::all() {
+        table.jobs.retain(is_asked);
+        if table.jobs.is_empty() {
+            continue;
         }
+        println!(
+            "{gap}| {} | ratio | least to greatest | at most |",
+            table.heading
+        );
+        println!("|---|---|---|---|---|---|");
+        for job in &mut table.jobs {
+            missed += usize::from(!measure(job, table.units));
+        }
+        gap = "\n";
     }
     if missed > 0 {
         println!("\n{missed} MISSED");
@@ -57,9 +77,9 @@ fn main() {
 }
 
 /// Prints the job's line, and tells whether its limit is held.
-fn measure(job: &mut Job) -> bool {
+fn measure(job: &mut Job, units: f64) -> bool {
     let rounds: Vec<[f64; 3]> = (0..ROUNDS).map(|_| round(job)).collect();
-    let [port, rust, ratio] = [0, 1, 2].map(|i| {
+    let [port, other, ratio] = [0, 1, 2].map(|i| {
         let mut column: Vec<f64> = rounds.iter().map(|r| r[i]).collect();
         column.sort_by(f64::total_cmp);
         column
@@ -69,8 +89,8 @@ fn measure(job: &mut Job) -> bool {
     println!(
         "| {} | {:.2} | {:.2} | {:.2} | {:.2} to {:.2} | {:.2}{} |",
         job.name,
-        port[middle],
-        rust[middle],
+        units * port[middle],
+        units * other[middle],
         ratio[middle],
         ratio[0],
         ratio[ROUNDS - 1],
@@ -82,10 +102,10 @@ fn measure(job: &mut Job) -> bool {
 
 /// The best time of each side, and their ratio.
 fn round(job: &mut Job) -> [f64; 3] {
-    let (mut port, mut rust) = (f64::MAX, f64::MAX);
+    let (mut port, mut other) = (f64::MAX, f64::MAX);
     for _ in 0..TURNS {
         port = port.min((job.port)());
-        rust = rust.min((job.rust)());
+        other = other.min((job.other)());
     }
-    [port, rust, port / rust]
+    [port, other, port / other]
 }

@@ -228,6 +228,18 @@ static void every_landing_and_mask(void) {
     }
 }
 
+/* A byte that no valid block has, in each of the first 16, and at both ends of each part that must be zero. */
+static void every_broken_byte(void) {
+    static const size_t ends[] = {SPOREDRIFT_CURRENT_PACKET_AT, SPOREDRIFT_PACKETS_AT - 1, SPOREDRIFT_PACKETS_AT, SPOREDRIFT_PRESET_AT - 1,
+        SPOREDRIFT_PRESET_AT, SPOREDRIFT_PALETTES_AT - 1, SPOREDRIFT_FROZEN_AT, SPOREDRIFT_TILES_AT - 1};
+    for (size_t i = 0; i < 16 + sizeof ends / sizeof *ends; i++) {
+        size_t at = i < 16 ? i : ends[i - 16];
+        uint8_t was = block[at];
+        block[at] = 0xFF, look(), measure_write_joypad(), measure_play(), measure_update_screen(), block[at] = was;
+        if (sporedrift_refusal(answer) <= SPOREDRIFT_REFUSED_LENGTH) die("a broken block is not refused");
+    }
+}
+
 static void every_refusal(void) {
     lent = writes, lent_len = sizeof writes;
     block_len = 1, look(), measure_write_joypad(), measure_play(), measure_update_screen(), measure_new(), measure_post_boot();
@@ -238,10 +250,11 @@ static void every_refusal(void) {
     words_len = 1, look(), words_len = SPOREDRIFT_PICTURE;
     sent_len = 1, measure_encode(), measure_verdict(), sent_len = SPOREDRIFT_PACKET;
     writes_len = 1, measure_encode(), writes_len = sizeof writes;
-    for (size_t i = 0; i < 16; i++) { /* a byte that no valid block has, in each of the first 16 */
-        uint8_t was = block[i];
-        block[i] = 0xFF, look(), measure_write_joypad(), measure_play(), measure_update_screen(), block[i] = was;
+    for (uint8_t receiver = SPOREDRIFT_RECEIVER_IDLE; receiver <= SPOREDRIFT_RECEIVER_AWAITING; receiver++) {
+        block[SPOREDRIFT_RECEIVER_AT] = receiver;
+        every_broken_byte();
     }
+    block[SPOREDRIFT_RECEIVER_AT] = SPOREDRIFT_RECEIVER_IDLE;
 }
 
 int main(void) {

@@ -27,6 +27,9 @@ pub const FIXED: [&str; 7] = [
 const PAIRS: u64 = 212;
 /// The combinations that V1 to V6 allow; the suite `oracle` counts them anew.
 const CLASSES: u64 = 640;
+/// What a refused block may be told by: 3 bytes of V1, 7 of V2, 4 and the two packet parts' 128 of V3, 2 of V4, 8 of V5, and of V6 byte 0 and
+/// the capture's 5,760.
+pub const OFFSETS: u64 = 5913;
 
 #[derive(Default)]
 pub struct Counts {
@@ -46,8 +49,8 @@ pub struct Counts {
     pub new: u64,
     pub post_boot: u64,
     pub random: BTreeMap<Class, u64>,
-    /// Damaged blocks, invalid and still valid.
-    pub refused: u64,
+    /// Damaged blocks: invalid, by the refusal's number and offset, and still valid.
+    pub refused: BTreeMap<(u8, usize), u64>,
     pub unhurt: u64,
     /// Pairs of merged logs, and screens moved over a fixed write, by its kind, after which the outcome was another.
     pub merged: u64,
@@ -80,6 +83,19 @@ pub fn command(command: &[u8]) {
     count(|c| *c.commands.entry(pair).or_default() += 1);
 }
 
+/// A damaged block, by what `broken` says of it.
+pub fn damaged(told: Option<(u8, usize)>) {
+    count(|c| match told {
+        Some(pair) => *c.refused.entry(pair).or_default() += 1,
+        None => c.unhurt += 1,
+    });
+}
+
+/// The numbers and offsets by which blocks were refused so far.
+pub fn offsets() -> u64 {
+    COUNTS.with_borrow(|c| c.refused.len() as u64)
+}
+
 pub fn start(b: &[u8]) {
     count(|c| {
         if b == block::new() {
@@ -110,7 +126,9 @@ impl Counts {
         for (class, n) in &other.random {
             *self.random.entry(*class).or_default() += n;
         }
-        self.refused += other.refused;
+        for (pair, n) in &other.refused {
+            *self.refused.entry(*pair).or_default() += n;
+        }
         self.unhurt += other.unhurt;
         self.merged += other.merged;
         sum(&mut self.moved, &other.moved);
@@ -159,10 +177,16 @@ impl Counts {
             figure("runs from post_boot", self.post_boot, 1000),
             figure("runs from random valid blocks", random, 10_000),
             figure("classes of these", self.random.len() as u64, CLASSES),
-            figure("damaged blocks, refused", self.refused, 10_000),
-            figure("damaged blocks, still valid", self.unhurt, 1000),
-            figure("pairs of merged logs", self.merged, 1000),
+            figure("damaged blocks, still valid", self.unhurt, 10_000),
         ];
+        for number in 21..=26 {
+            let pairs = self.refused.iter().filter(|(pair, _)| pair.0 == number);
+            let name = format!("damaged blocks, refused with {number}");
+            all.push(figure(name, pairs.map(|(_, n)| n).sum(), 10_000));
+        }
+        let offsets = self.refused.len() as u64;
+        all.push(figure("numbers with their offsets", offsets, OFFSETS));
+        all.push(figure("pairs of merged logs", self.merged, 1000));
         for (kind, n) in FIXED.iter().zip(self.moved) {
             let name = format!("other outcomes by a screen moved over {kind}");
             all.push(figure(name, n, 10));

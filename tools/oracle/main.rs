@@ -6,6 +6,7 @@
 
 mod block;
 mod both;
+mod broken;
 mod counts;
 mod ctx;
 mod event;

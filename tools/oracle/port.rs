@@ -1,10 +1,9 @@
 //! The port's calls that change a block, and the check of a saved one, as they are exported: any slices may be lent.
 
 unsafe extern "C" {
-    // a slice is a pointer and a length; a refusal n is answered as 100 hex + n
+    // a slice is a pointer and a length; a refusal is answered as its number with `REFUSED`
     fn probe_write_joypad(b: *mut u8, len: usize, value: u8, out: *mut u8, out_len: usize) -> u32;
     fn probe_update_screen(b: *mut u8, len: usize, screen: *const u8, screen_len: usize) -> u32;
-    // a refusal n is answered as 128 + n
     fn probe_play(
         b: *mut u8,
         len: usize,
@@ -13,14 +12,14 @@ unsafe extern "C" {
         out: *mut u8,
         out_len: usize,
     ) -> usize;
-    // a refusal n is answered as n
+    // these answer a refusal as its number alone
     fn probe_check(b: *const u8, len: usize) -> u32;
     pub fn probe_new(b: *mut u8, len: usize) -> u32;
     pub fn probe_post_boot(b: *mut u8, len: usize) -> u32;
 }
 
-pub const REFUSED: u32 = 0x100;
-pub const PLAY_REFUSED: usize = 128;
+/// No answer has this bit. A refusal's number stands below it, with 256 times its offset if it has one.
+pub const REFUSED: u32 = 0x8000_0000;
 /// The answer to a screen at which no transfer lands.
 pub const NOTHING: u32 = 0xFF;
 /// The room that a write asks for.

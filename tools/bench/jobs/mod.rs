@@ -1,20 +1,30 @@
 //! The jobs, in the order in which they run. A new file is a line in each of the two lists.
 
-use crate::Job;
+use crate::Table;
 
+mod check;
 mod picture;
 mod screen;
 mod whole;
 mod writes;
 
-pub fn all() -> Vec<Job> {
-    [
+pub fn all() -> Vec<Table> {
+    let beside_the_rust = [
         writes::jobs(),
         screen::jobs(),
         picture::jobs(),
         whole::jobs(),
+    ];
+    vec![
+        Table {
+            heading: "job | ours, us | the Rust, us",
+            units: 1.0,
+            jobs: beside_the_rust.into_iter().flatten().collect(),
+        },
+        Table {
+            heading: "check of a block, damaged and before | refused, ns | valid, ns",
+            units: 1000.0,
+            jobs: check::jobs(),
+        },
     ]
-    .into_iter()
-    .flatten()
-    .collect()
 }

@@ -102,7 +102,7 @@ fn job(name: &'static str, limit: f64, border: Border, by_rows: bool) -> Job {
         name,
         limit,
         port: Box::new(move || each(20, |_| draw(black_box(&block), &mut out, by_rows))),
-        rust: Box::new(move || each(4, |_| black_box(&sgb).snes_picture())),
+        other: Box::new(move || each(4, |_| black_box(&sgb).snes_picture())),
     }
 }
 

@@ -83,7 +83,7 @@ fn page() -> Job {
         name: "page",
         limit: 0.3,
         port: Box::new(move || each(400, |_| make(black_box(&packed), &mut out))),
-        rust: Box::new(move || each(100, |_| door::screen_to_transfer_data(black_box(&screen)))),
+        other: Box::new(move || each(100, |_| door::screen_to_transfer_data(black_box(&screen)))),
     }
 }
 
@@ -129,7 +129,7 @@ fn job(name: &'static str, by: By, due: Due) -> Job {
                 show(by, &mut block, black_box(&packed))
             })
         }),
-        rust: rust_turn(due),
+        other: rust_turn(due),
     }
 }
 

@@ -88,7 +88,7 @@ fn job(name: &'static str, limit: f64, plate: bool, driver: Driver) -> Job {
         name,
         limit,
         port: Box::new(move || each(1, |_| desk.run(black_box(SAMPLE), plate).len())),
-        rust: Box::new(move || {
+        other: Box::new(move || {
             each(1, |_| {
                 text.clear();
                 driver(&mut black_box(SAMPLE), &mut text).unwrap();

@@ -177,7 +177,7 @@ fn beside(
             let writes = writes.clone();
             Box::new(move || each(1, |_| run(&mut block, &writes)))
         },
-        rust: Box::new(move || {
+        other: Box::new(move || {
             each(1, |_| {
                 let commands = writes.iter().filter_map(|w| unit.0.write_joypad(*w));
                 commands.count()
@@ -209,7 +209,7 @@ fn plain_run(name: &'static str, writes: Vec<u8>) -> Job {
             let writes = writes.clone();
             Box::new(move || each(1, |_| run(&writes)))
         },
-        rust: Box::new(move || {
+        other: Box::new(move || {
             each(1, |_| {
                 let commands = writes.iter().filter_map(|w| unit.write_joypad(*w));
                 commands.count()

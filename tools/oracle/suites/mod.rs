@@ -27,6 +27,7 @@ macro_rules! suites {
 suites! {
     unit 4 * 1,
     receiver 1 * 4,
+    broken 2 * 20,
     oracle 2 * 3,
     leaves 1 * 1,
     commands 4 * 10,

@@ -4,10 +4,10 @@
 use super::unit::streams;
 use crate::block::LEN;
 use crate::both::{By, marked};
+use crate::broken;
 use crate::ctx::Ctx;
 use crate::generate;
-use crate::port::{COMMAND_LEN, PLAY_REFUSED, play};
-use crate::valid;
+use crate::port::{COMMAND_LEN, REFUSED, play};
 
 pub fn run(ctx: &mut Ctx) {
     streams(ctx, 80, generate::transfers, By::Play);
@@ -34,14 +34,12 @@ fn refusals(ctx: &mut Ctx) {
         for room in [0, COMMAND_LEN - 1, COMMAND_LEN] {
             for len in [LEN - 1, LEN, LEN + 1] {
                 let mut b = generate::nearly_valid(&mut ctx.rng);
-                let invalid = valid::check(&b).is_err();
                 b.resize(len, 0);
-                let due = match (len != LEN, invalid, room < COMMAND_LEN) {
-                    (true, _, _) => PLAY_REFUSED + 1,
-                    (_, true, _) => PLAY_REFUSED + 2,
-                    (_, _, true) => PLAY_REFUSED + 6,
-                    _ => 0,
-                };
+                let due = match (broken::refusal(&b), room < COMMAND_LEN) {
+                    (0, false) => 0,
+                    (0, true) => REFUSED | 6,
+                    (no, _) => REFUSED | no,
+                } as usize;
                 let writes: &[u8] = if due == 0 { &[] } else { &[0, 0x30, 0x20] };
                 let (mut after, mut out) = (b.clone(), marked(room));
                 let told = play(&mut after, writes, &mut out);

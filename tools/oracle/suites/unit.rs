@@ -1,9 +1,10 @@
 //! The public calls that change a block, and the check of a saved one, against the Rust: each answer, every byte of the block and of
-//! the command buffer, the refusals with every combination of their causes, and damaged blocks against `valid`'s reading of V1 to V6.
+//! the command buffer, the refusals with every combination of their causes, and damaged blocks against `broken`'s reading of V1 to V6.
 
 use crate::block::{self, *};
 use crate::both::{By, follow, marked};
-use crate::counts::{self, count};
+use crate::broken;
+use crate::counts;
 use crate::ctx::Ctx;
 use crate::event::Event;
 use crate::generate;
@@ -88,14 +89,14 @@ pub fn streams(ctx: &mut Ctx, rounds: usize, events: fn(&mut Rng, usize) -> Vec<
     ctx.check(landings.iter().all(|n| *n > 0), || "a kind never landed".into());
 }
 
-/// The causes of refusals 1 and 2 in every combination, on a random block: the block, and the lower number that is due, or 0.
+/// The causes of refusals 1 and 21 to 26 in every combination, on a random block: the block, and the number that is due, or 0.
 fn causes(rng: &mut Rng) -> Vec<(Vec<u8>, u32)> {
     let sound = generate::block(rng);
     let mut hurt = sound.clone();
-    while valid::check(&hurt).is_ok() {
+    while broken::broken(&hurt).is_none() {
         damage(rng, &sound).iter().for_each(|c| change(&mut hurt, *c));
     }
-    let mut all = vec![(sound.clone(), 0), (hurt.clone(), 2)];
+    let mut all = vec![(sound.clone(), 0), (hurt.clone(), broken::refusal(&hurt))];
     for len in [0, LEN - 1, LEN + 1] {
         for b in [&sound, &hurt] {
             let mut b = b.clone();
@@ -106,7 +107,7 @@ fn causes(rng: &mut Rng) -> Vec<(Vec<u8>, u32)> {
     all
 }
 
-/// Every call with every combination of what it refuses: the lowest number is answered, and no lent byte changes.
+/// Every call with every combination of what it refuses: the first cause is answered, and no lent byte changes.
 fn refusals(ctx: &mut Ctx) {
     for _ in ctx.rounds(60) {
         for (b, number) in causes(&mut ctx.rng) {
@@ -134,11 +135,11 @@ fn refusals(ctx: &mut Ctx) {
     }
 }
 
-/// One answer, to a call that has these causes to refuse, the lower first (0 is none). `kept`: no lent byte changed.
+/// One answer, to a call that has these causes to refuse, the block's first (0 is none). `kept`: no lent byte changed.
 fn refused(ctx: &mut Ctx, what: &str, b: &[u8], told: u32, causes: [u32; 2], kept: bool) {
     let number = causes.into_iter().find(|n| *n > 0);
     let holds = match number {
-        Some(n) => told == REFUSED + n && kept,
+        Some(n) => told == REFUSED | n && kept,
         None => told < REFUSED,
     };
     ctx.check(holds, || {
@@ -148,7 +149,7 @@ fn refused(ctx: &mut Ctx, what: &str, b: &[u8], told: u32, causes: [u32; 2], kep
 }
 
 /// One to three changed bytes for a valid block, where V1 to V6 look: each is the place * 256 + the byte.
-fn damage(rng: &mut Rng, b: &[u8]) -> Vec<u32> {
+pub fn damage(rng: &mut Rng, b: &[u8]) -> Vec<u32> {
     let mut changes = Vec::new();
     for _ in 0..rng.within(1, 3) {
         let edge = STORE.start + 16 * usize::from(b[RECEIVED]);
@@ -176,11 +177,11 @@ fn damage(rng: &mut Rng, b: &[u8]) -> Vec<u32> {
     changes
 }
 
-fn change(b: &mut [u8], change: u32) {
+pub fn change(b: &mut [u8], change: u32) {
     b[change as usize >> 8] = change as u8;
 }
 
-/// A valid block with some bytes changed is refused exactly if `valid` says so, and is then left as it is. More than 10,000 are invalid.
+/// A valid block with some bytes changed is refused as `broken` says, and is then left as it is. More than 10,000 are invalid.
 fn damaged_blocks(ctx: &mut Ctx) {
     let (mut broken, mut alone) = (BTreeSet::new(), BTreeSet::new());
     for _ in ctx.rounds(12_000) {
@@ -190,10 +191,7 @@ fn damaged_blocks(ctx: &mut Ctx) {
         changes.iter().for_each(|c| change(&mut hurt, *c));
         let clauses = valid::clauses(&hurt).into_iter().filter(|c| !c.1);
         let names: Vec<&str> = clauses.map(|c| c.0).collect();
-        match names.is_empty() {
-            true => count(|c| c.unhurt += 1),
-            false => count(|c| c.refused += 1),
-        }
+        counts::damaged(broken::broken(&hurt));
         if let [only] = names[..] {
             alone.insert(only);
         }
@@ -217,18 +215,18 @@ fn damaged_blocks(ctx: &mut Ctx) {
 }
 
 fn check_damaged(hurt: &[u8]) -> Result<(), String> {
-    let told = check(hurt);
-    let Err(clause) = valid::check(hurt) else {
+    let (told, due) = (check(hurt), broken::refusal(hurt));
+    if due == 0 {
         return match told {
             0 => Ok(()),
-            n => Err(format!("a valid block is refused: {n}")),
+            n => Err(format!("a valid block is refused: {n:X}")),
         };
-    };
+    }
     let (mut after, mut out) = (hurt.to_vec(), marked(COMMAND_LEN));
     let written = write_joypad(&mut after, 0x20, &mut out);
     let shown = update_screen(&mut after, &[0; SCREEN_LEN]);
-    if (told, written, shown) != (2, REFUSED + 2, REFUSED + 2) {
-        return Err(format!("{clause} is broken: check {told:X}, write {written:X}, screen {shown:X}"));
+    if (told, written, shown) != (due, REFUSED | due, REFUSED | due) {
+        return Err(format!("{due:X} is due: check {told:X}, write {written:X}, screen {shown:X}"));
     }
     if out != marked(COMMAND_LEN) {
         return Err("a refused write changed the buffer".into());

@@ -1,18 +1,19 @@
 //! The calls that only look at a block: answers against the Rust on random valid blocks; and every refusal with every
-//! combination of causes, where the lowest number wins and no lent byte changes.
+//! combination of causes, where the first of them wins and no lent byte changes.
 
 use crate::block::LEN;
-use crate::counts::count;
+use crate::broken;
+use crate::counts::{self, count};
 use crate::ctx::Ctx;
 use crate::generate;
 use crate::oracle::Oracle;
+use crate::port;
 use crate::rng::Rng;
 use crate::shrink::Block;
-use crate::valid;
 
 unsafe extern "C" {
     // a slice is a pointer and a length
-    fn probe_view_refusal(block: *const u8, len: usize) -> u8;
+    fn probe_view_refusal(block: *const u8, len: usize) -> u32;
     fn probe_view_mask_mode(block: *const u8, len: usize) -> u64;
     fn probe_view_backdrop(block: *const u8, len: usize) -> u64;
     fn probe_view_color_at(block: *const u8, len: usize, x: usize, y: usize, shade: u8) -> u64;
@@ -23,16 +24,21 @@ unsafe extern "C" {
 }
 
 /// How an answer is told as a number; any other number is the value.
-const REFUSED: u64 = 0x8000_0000;
+const REFUSED: u64 = port::REFUSED as u64;
 const TRANSPARENT: u64 = 0x4000_0000;
 /// What an output holds before a call; what the call doesn't answer must still hold it.
-const UNTOUCHED: u16 = 0xA5C3;
+pub const UNTOUCHED: u16 = 0xA5C3;
 const ROW: usize = 256;
 const PICTURE: usize = 57_344;
 
+/// The refusal that a block by itself calls for, or 0.
+pub fn refusal(b: &[u8]) -> u32 {
+    unsafe { probe_view_refusal(b.as_ptr(), b.len()) }
+}
+
 /// One call with all that is asked of it.
 #[derive(Clone, Copy, Debug)]
-enum Call {
+pub enum Call {
     MaskMode,
     Backdrop,
     ColorAt(usize, usize, u8),
@@ -45,7 +51,7 @@ enum Call {
 }
 
 /// What a call answers, and what it leaves in the output that was lent.
-type Outcome = (u64, Vec<u16>);
+pub type Outcome = (u64, Vec<u16>);
 
 impl Call {
     fn lent(self) -> Vec<u16> {
@@ -57,7 +63,7 @@ impl Call {
     }
 
     /// The port. The block is lent to be read alone: that it stays as it was is a case of its own.
-    fn port(self, b: &[u8]) -> Outcome {
+    pub fn port(self, b: &[u8]) -> Outcome {
         let (block, len) = (b.as_ptr(), b.len());
         let mut out = self.lent();
         let answer = unsafe {
@@ -84,13 +90,12 @@ impl Call {
             Call::Row(y, n) => (y >= 224, n < ROW),
             Call::Picture(n) => (false, n < PICTURE),
         };
-        let causes = [
-            (1, b.len() != LEN),
-            (2, b.len() == LEN && valid::check(b).is_err()),
-            (4, outside),
-            (6, short),
-        ];
-        causes.iter().find(|(_, holds)| *holds).map(|(no, _)| *no)
+        match broken::refusal(b) {
+            0 if outside => Some(4),
+            0 if short => Some(6),
+            0 => None,
+            no => Some(no.into()),
+        }
     }
 
     /// What the Rust answers of a valid block.
@@ -130,7 +135,7 @@ impl Call {
     }
 
     /// Refused as RULES 2 says, with every word as it was; or answered as the Rust does.
-    fn right(self, b: &[u8]) -> Result<(), String> {
+    pub fn right(self, b: &[u8]) -> Result<(), String> {
         match self.refusal(b) {
             Some(no) => self.same(b, (REFUSED | no, self.lent())),
             None => {
@@ -215,14 +220,14 @@ fn refusals(ctx: &mut Ctx) {
 fn unsound(rng: &mut Rng) -> Vec<u8> {
     loop {
         let b = generate::nearly_valid(rng);
-        if valid::check(&b).is_err() {
+        if broken::broken(&b).is_some() {
             return b;
         }
     }
 }
 
 /// Each call inside and outside of each bound, with room and without.
-fn asked() -> Vec<Call> {
+pub fn asked() -> Vec<Call> {
     let mut calls = vec![Call::MaskMode, Call::Backdrop];
     for x in [159, 160] {
         for y in [143, 144] {
@@ -246,12 +251,8 @@ fn asked() -> Vec<Call> {
 fn damaged(ctx: &mut Ctx) {
     for _ in ctx.rounds(2000) {
         let b = generate::nearly_valid(&mut ctx.rng);
-        let no = if valid::check(&b).is_ok() { 0 } else { 2 };
-        match no {
-            0 => count(|c| c.unhurt += 1),
-            _ => count(|c| c.refused += 1),
-        }
-        let port = unsafe { probe_view_refusal(b.as_ptr(), b.len()) };
-        ctx.check(port == no, || format!("refusal {port}, not {no}: {:02X?}", &b[..32]));
+        counts::damaged(broken::broken(&b));
+        let (told, due) = (refusal(&b), broken::refusal(&b));
+        ctx.check(told == due, || format!("refusal {told:X}, not {due:X}: {:02X?}", &b[..32]));
     }
 }
