@@ -1,5 +1,5 @@
--- The definition tried on blocks, row by row of RULES 1.15. A list that is cut off behind its last byte that matters has nothing behind it
--- that could be wrong; the program `test_edges` has whole blocks.
+-- The definition tried on rows of RULES 1.15. A list that is cut off behind its last byte that matters has nothing behind it that could be
+-- wrong; the program `test_edges` has whole blocks, and V5.
 use mathlib.Core.Path.{_≡_, refl}
 use mathlib.Core.List.{List, [], _∷_, _++_}
 use mathlib.Core.Option.{Option, none, some}

@@ -1,4 +1,4 @@
--- What `check` prints of a saved block: one line, `valid`, or the refusal that the block calls for. RULES 2.1.
+-- What `check` prints of a saved block: one line, `valid`, or the refusal that the block calls for. RULES 8.7.
 use Prim.Native.Nat.{ℕ, _/_, _%_}
 use mathlib.Core.Bool.{Bool, cond, _&&_}
 use mathlib.Core.List.{List, [], _∷_, _++_}

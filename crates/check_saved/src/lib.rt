@@ -1,5 +1,5 @@
 // All that the program `check` prints of a saved block on standard input: one line, `valid` or the refusal that the block calls for.
-// RULES 2.1. The verdict is that of `view::refusal`, the writing is in `log_writer`; here are the calls of `read`.
+// RULES 8.7. The verdict is that of `view::refusal`, the writing is in `log_writer`; here are the calls of `read`.
 ghost use mathlib.Core.Path.{_≡_};
 ghost use Prim.Native.Nat.{_+_, _≤_};
 ghost use lib.ListN.{length, take};
