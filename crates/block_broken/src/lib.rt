@@ -1,6 +1,6 @@
-// Which rule a block breaks first, and at which byte, RULES 1.15: a function for each of V1 to V6, and the first of them that finds something.
-// The meaning is `Broken` in the crate `broken`, function by function; V3 is the crate `block_broken_v3`. That a block is valid is asked before, of
-// the crate `block_valid`.
+// Whether a block is valid, and else which rule it breaks first, and at which byte: RULES 1.12 and 1.15. The tests V1 to V6 are the crate
+// `block_valid`; here is a function for each that looks for its byte, but for V3's, which is the crate `block_broken_v3`.
+// The meaning is `Broken` in the crate `broken`, function by function.
 ghost use mathlib.Core.Path.{_≡_};
 ghost use mathlib.Core.Bool.{cond};
 ghost use lib.Dec.{eqb, leb};
@@ -9,17 +9,23 @@ ghost use Rattle.parts.specs.Parts.{blockBytes, kindAt, countdownAt};
 ghost use Rattle.layout.specs.Block.{byte};
 ghost use Rattle.broken.specs.Broken as spec;
 ghost use Rattle.block_found.specs.Found.{foundTold};
-use block_broken_v3::v3;
+use block_broken_v3::at_v3;
 use block_found::Found;
 use block_found::at_most;
 use block_found::lower;
 use block_found::set_in;
 use block_found::unless;
 use block_found::zero_at;
+use block_receiver::v3;
 use block_valid::lines_agree;
 use block_valid::mask_allows;
+use block_valid::v1;
+use block_valid::v2;
+use block_valid::v4;
+use block_valid::v5;
+use block_valid::v6;
 
-pub fn v1(block: &[u8]) -> Found
+fn at_v1(block: &[u8]) -> Found
     requires { ⌜ length (now block) ≡ blockBytes ⌝ }
     ensures { λ r. ⌜ foundTold r ≡ spec.lowest (spec.asks1 (now (block .entry))) ⌝ }
 {
@@ -32,7 +38,7 @@ pub fn v1(block: &[u8]) -> Found
     )
 }
 
-pub fn v2(block: &[u8]) -> Found
+fn at_v2(block: &[u8]) -> Found
     requires { ⌜ length (now block) ≡ blockBytes ⌝ }
     ensures { λ r. ⌜ foundTold r ≡ spec.lowest (spec.asks2 (now (block .entry))) ⌝ }
 {
@@ -45,7 +51,7 @@ pub fn v2(block: &[u8]) -> Found
     lower(at_most(block, parts::P15, 1), both)
 }
 
-pub fn v4(block: &[u8]) -> Found
+fn at_v4(block: &[u8]) -> Found
     requires { ⌜ length (now block) ≡ blockBytes ⌝ }
     ensures { λ r. ⌜ foundTold r ≡ spec.lowest (spec.asks4 (now (block .entry))) ⌝ }
 {
@@ -63,7 +69,7 @@ fn kind(block: &[u8]) -> Found
     at_most(block, parts::KIND, 4)
 }
 
-pub fn v5(block: &[u8]) -> Found
+fn at_v5(block: &[u8]) -> Found
     requires { ⌜ length (now block) ≡ blockBytes ⌝ }
     ensures { λ r. ⌜ foundTold r ≡ spec.lowest (spec.asks5 (now (block .entry))) ⌝ }
 {
@@ -73,7 +79,7 @@ pub fn v5(block: &[u8]) -> Found
     set_in(block, parts::PRESET, parts::PALETTES)
 }
 
-pub fn v6(block: &[u8]) -> Found
+fn at_v6(block: &[u8]) -> Found
     requires { ⌜ length (now block) ≡ blockBytes ⌝ }
     ensures { λ r. ⌜ foundTold r ≡ spec.lowest (spec.asks6 (now (block .entry))) ⌝ }
 {
@@ -88,32 +94,31 @@ pub fn v6(block: &[u8]) -> Found
     lower(mask, set_in(block, parts::FROZEN, parts::TILES))
 }
 
-// The first of them, as the number of a refusal with its offset; 0 if there is none.
+// The first of V1 to V6 that is broken, as the number of a refusal with its offset; 0 if there is none. Each is tested as a valid block's are, and
+// its byte is looked for only where it fails.
 pub fn broken(block: &[u8]) -> u32
     requires { ⌜ length (now block) ≡ blockBytes ⌝ }
     ensures { λ r. ⌜ r ≡ spec.brokenNumber (spec.broken (now (block .entry))) ⌝ }
 {
-    let one = numbered(21, v1(block));
-    if one != 0 {
-        return one;
+    if !v1(block) {
+        return numbered(21, at_v1(block));
     }
-    let two = numbered(22, v2(block));
-    if two != 0 {
-        return two;
+    if !v2(block) {
+        return numbered(22, at_v2(block));
     }
-    let three = numbered(23, v3(block));
-    if three != 0 {
-        return three;
+    if !v3(block) {
+        return numbered(23, at_v3(block));
     }
-    let four = numbered(24, v4(block));
-    if four != 0 {
-        return four;
+    if !v4(block) {
+        return numbered(24, at_v4(block));
     }
-    let five = numbered(25, v5(block));
-    if five != 0 {
-        return five;
+    if !v5(block) {
+        return numbered(25, at_v5(block));
     }
-    numbered(26, v6(block))
+    if !v6(block) {
+        return numbered(26, at_v6(block));
+    }
+    0
 }
 
 // A refusal's number, with the offset above its low byte.

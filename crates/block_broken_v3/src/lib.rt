@@ -22,8 +22,7 @@ fn resting(block: &[u8]) -> Found
     requires { ⌜ length (now block) ≡ blockBytes ⌝ }
     ensures { λ r. ⌜ foundTold r ≡ spec.lowest (spec.resting (now (block .entry))) ⌝ }
 {
-    let packet = set_in(block, parts::PACKET, parts::STORE);
-    let held = lower(packet, set_in(block, parts::STORE, parts::PRESET));
+    let held = set_in(block, parts::PACKET, parts::PRESET);
     let bits = lower(zero_at(block, parts::BITS), held);
     let received = lower(zero_at(block, parts::RECEIVED), bits);
     lower(zero_at(block, parts::EXPECTED), received)
@@ -105,7 +104,7 @@ fn receiving(block: &[u8]) -> Found
 }
 
 // By the receiver's stage. One that there isn't is told, and nothing else.
-pub fn v3(block: &[u8]) -> Found
+pub fn at_v3(block: &[u8]) -> Found
     requires { ⌜ length (now block) ≡ blockBytes ⌝ }
     ensures { λ r. ⌜ foundTold r ≡ spec.lowest (spec.asks3 (now (block .entry))) ⌝ }
 {

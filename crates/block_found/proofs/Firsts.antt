@@ -4,12 +4,14 @@ use native.Mathlib.Nat.{min-eq-left}
 use native.Mathlib.Omega.{arith}
 use mathlib.Core.Path.{_≡_, refl, sym, ap, _∙_, subst}
 use mathlib.Core.Bool.{Bool, true, false, cond}
-use mathlib.Core.List.{List, [], _∷_}
+use mathlib.Core.List.{List, [], _∷_, _++_}
 use mathlib.Core.Option.{Option, none, some}
 use borrow.Author.Tests.{lt-ltb, le-ltb, eq-eqb, ne-eqb}
 use lib.Dec.{eqb, ltb}
 use lib.ListN.{getD, length, take, drop, drop-of-length-le}
-use lib.Seq.{drop-cons}
+use lib.Seq.{drop-cons, drop-drop, take-add}
+use Rattle.bits.specs.Over.{part}
+use Rattle.bits.proofs.Overs.{length-part}
 use Rattle.bits.proofs.Tests.{same-ltb}
 use Rattle.broken.specs.Broken.{Asked, asked, zeroFrom, clearFrom, byteOf, lower, lowest}
 use Rattle.block_found.specs.Found.{firstSet}
@@ -77,6 +79,21 @@ set-at at n l e h = sym (set-told at l ∙ rw (sym e, lt-ltb n (length l) h) ref
 
 pub set-not : (at n : ℕ) (l : List ℕ) → n ≡ firstSet l → length l ≤ n → none ≡ lowest (zeroFrom at l)
 set-not at n l e h = sym (set-told at l ∙ rw (sym e, le-ltb n (length l) h) refl)
+
+-- parts that lie side by side are one part
+zero-append : (at : ℕ) (k l : List ℕ) → zeroFrom at (k ++ l) ≡ zeroFrom at k ++ zeroFrom (at + length k) l
+unfolding zeroFrom
+zero-append at [] l = let s : at ≡ at + 0 = omega arith in ap (λ n. zeroFrom n l) s
+zero-append at (x ∷ k) l =
+    let s : suc at + length k ≡ at + suc (length k) = omega arith in
+    ap (λ r. asked at (eqb x 0) ∷ r) (zero-append (suc at) k l ∙ ap (λ n. zeroFrom (suc at) k ++ zeroFrom n l) s)
+
+pub zero-beside : (at n m : ℕ) (b : List ℕ) → at + n ≤ length b
+    → zeroFrom at (part at (n + m) b) ≡ zeroFrom at (part at n b) ++ zeroFrom (at + n) (part (at + n) m b)
+zero-beside at n m b h =
+    ap (zeroFrom at) (take-add n m (drop at b) ∙ ap (λ d. take n (drop at b) ++ take m d) (drop-drop n at b))
+    ∙ zero-append at (part at n b) (part (at + n) m b)
+    ∙ ap (λ k. zeroFrom at (part at n b) ++ zeroFrom (at + k) (part (at + n) m b)) (length-part at n b h)
 
 -- ---- a packet's bits past an index, byte by byte
 

@@ -2,7 +2,7 @@
 // where is the crate `block_broken`; it is asked only of a block that is not valid, so that a valid one is checked as quickly as without it.
 // The meaning is `Broken` in the crate `broken`.
 ghost use mathlib.Core.Path.{_≡_};
-ghost use Prim.Native.Nat.{_-_, _/_, _^_, _<_, _≤_};
+ghost use Prim.Native.Nat.{_+_, _-_, _/_, _^_, _<_, _≤_};
 ghost use lib.Dec.{leb};
 ghost use lib.ListN.{length};
 ghost use Rattle.parts.specs.Parts.{blockBytes, headerBytes, packetAt, packetBytes};
@@ -57,22 +57,31 @@ fn lower_than(i: u16, b: Found) -> Found
     }
 }
 
-// How many zeros stand before the first byte that isn't zero, by halves: each look at many bytes at once tells on which side it is, so that
-// all looks together take hardly longer than one at everything.
+// How many zeros stand before the first byte that isn't zero: in steps that get shorter, since many bytes are looked at at once. So it takes no
+// longer than to look whether all are zero.
 pub fn first_set(s: &[u8]) -> usize
     ensures { λ r. ⌜ r ≡ firstSet (now (s .entry)) ⌝ }
 {
-    let mut from: usize = 0;
-    let mut upto = s.len();
-    while from < upto {
-        let middle = upto - (upto - from) / 2;
-        if all_zero(&s[from..middle]) {
-            from = middle;
-        } else {
-            upto = middle - 1;
+    let a = skip(s, 0, 512);
+    let b = skip(s, a, 64);
+    let c = skip(s, b, 16);
+    let d = skip(s, c, 4);
+    skip(s, d, 1)
+}
+
+// Goes on from a place before which there is nothing but zeros, as long as the next `size` bytes are zero.
+fn skip(s: &[u8], from: usize, size: usize) -> usize
+    requires { ⌜ (from ≤ firstSet (now s)) × (1 ≤ size) ⌝ }
+    ensures { λ r. ⌜ (r ≤ firstSet (now (s .entry))) × (firstSet (now (s .entry)) < r + size) ⌝ }
+{
+    let mut at = from;
+    while s.len() - at >= size {
+        if !all_zero(&s[at..at + size]) {
+            return at;
         }
+        at += size;
     }
-    from
+    at
 }
 
 // The first byte of a part that isn't zero.

@@ -1,4 +1,4 @@
-// V3 of a block, RULES 1.8: what the receiver's bytes may be at each of its stages. All of the clauses together are the crate `block_valid`.
+// V3 of a block, RULES 1.8: what the receiver's bytes may be at each of its stages. The other clauses are the crate `block_valid`, all of them together `block_broken`.
 // The meaning is `v3` in the crate `layout`; what it says of each stage is `Valid` in the crate `receiver`.
 ghost use mathlib.Core.Path.{_≡_};
 ghost use Prim.Native.Nat.{_^_, _≤_};

@@ -1,5 +1,5 @@
-// Whether a block is valid: V1 to V6, RULES 1.6 to 1.12, each by its own name, and all of them together.
-// The meaning is `Valid` in the crate `layout`; V3 is the crate `block_receiver`.
+// The tests that make a block valid, V1 to V6, RULES 1.6 to 1.11, each by its own name; V3 is the crate `block_receiver`.
+// The meaning is `Valid` in the crate `layout`. All of them together, and what is told where one fails, are the crate `block_broken`.
 ghost use mathlib.Core.Path.{_≡_};
 ghost use mathlib.Core.Bool.{true, cond};
 ghost use lib.ListN.{length};
@@ -7,32 +7,6 @@ ghost use Rattle.parts.specs.Parts.{blockBytes};
 ghost use Rattle.layout.specs.Block.{isSet};
 ghost use Rattle.layout.specs.Valid as spec;
 use bits::all_zero;
-use block_receiver::v3;
-
-// All six; a block of another length isn't valid.
-pub fn valid(block: &[u8]) -> bool
-    ensures { λ r. ⌜ r ≡ spec.valid (now (block .entry)) ⌝ }
-{
-    if block.len() != parts::BLOCK {
-        return false;
-    }
-    if !v1(block) {
-        return false;
-    }
-    if !v2(block) {
-        return false;
-    }
-    if !v3(block) {
-        return false;
-    }
-    if !v4(block) {
-        return false;
-    }
-    if !v5(block) {
-        return false;
-    }
-    v6(block)
-}
 
 // Mask mode and joypad mask are 3 or less, and the mask has every bit that the index has.
 pub fn v1(block: &[u8]) -> bool

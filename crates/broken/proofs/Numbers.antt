@@ -5,32 +5,42 @@ use mathlib.Core.Path.{_≡_, refl, sym, ap, _∙_, subst}
 use mathlib.Core.Bool.{Bool, true, false, false≢true}
 use mathlib.Core.List.{List, [], _∷_}
 use mathlib.Core.Option.{Option, none, some}
-use Rattle.layout.specs.Valid.{validParts}
+use Rattle.layout.specs.Valid.{v1, v2, v3, v4, v5, v6, validParts}
 use Rattle.broken.specs.Broken.{Asked, Broken, lowest, asks1, asks2, asks3, asks4, asks5, asks6, brokenOr, firstOf, broken, numberOf, brokenNumber}
 use Rattle.broken.specs.Told.{First}
-use Rattle.broken.proofs.Lowest.{isNone}
+use Rattle.broken.proofs.Lowest.{allHold, isNone, none-holds}
+use Rattle.broken.proofs.Asking.{asks1-are, asks2-are, asks3-are, asks4-are, asks5-are, asks6-are}
 use Rattle.broken.proofs.Brokens.{none-if-valid, broken-first}
 
 -- ---- rule after rule
 
 module _ (n : ℕ) (l : List Asked) (rs : List (List Asked)) where
-  pub number-here : (numberOf (20 + n) (lowest l) ≡ 0 → ⊥) → numberOf (20 + n) (lowest l) ≡ brokenNumber (firstOf n (l ∷ rs))
-  unfolding numberOf brokenNumber firstOf brokenOr
-  number-here = go (lowest l)
+  number-here : allHold l ≡ false → numberOf (20 + n) (lowest l) ≡ brokenNumber (firstOf n (l ∷ rs))
+  unfolding numberOf brokenNumber firstOf brokenOr isNone
+  number-here f = go (lowest l) (none-holds l ∙ f)
     where
-      go : (y : Option ℕ) → (numberOf (20 + n) y ≡ 0 → ⊥) → numberOf (20 + n) y ≡ brokenNumber (brokenOr n y (firstOf (suc n) rs))
-      go none f = absurd (f refl)
-      go (some at) f = refl
+      go : (y : Option ℕ) → isNone y ≡ false → numberOf (20 + n) y ≡ brokenNumber (brokenOr n y (firstOf (suc n) rs))
+      go none e = absurd (false≢true (sym e))
+      go (some at) e = refl
 
-  pub number-next : numberOf (20 + n) (lowest l) ≡ 0 → brokenNumber (firstOf (suc n) rs) ≡ brokenNumber (firstOf n (l ∷ rs))
-  unfolding numberOf brokenNumber firstOf brokenOr
-  number-next = go (lowest l)
+  number-next : allHold l ≡ true → brokenNumber (firstOf (suc n) rs) ≡ brokenNumber (firstOf n (l ∷ rs))
+  unfolding firstOf brokenOr isNone
+  number-next h = go (lowest l) (none-holds l ∙ h)
     where
-      go : (y : Option ℕ) → numberOf (20 + n) y ≡ 0 → brokenNumber (firstOf (suc n) rs) ≡ brokenNumber (brokenOr n y (firstOf (suc n) rs))
-      go none f = refl
-      go (some at) f = absurd (omega arith)
+      go : (y : Option ℕ) → isNone y ≡ true → brokenNumber (firstOf (suc n) rs) ≡ brokenNumber (brokenOr n y (firstOf (suc n) rs))
+      go none e = refl
+      go (some at) e = absurd (false≢true e)
 
 -- ---- read off the number
+
+-- a valid block has none
+pub number-valid : (b : List ℕ) → validParts b ≡ true → brokenNumber (broken b) ≡ 0
+unfolding brokenNumber isNone
+number-valid b h = go (broken b) (none-if-valid b ∙ h)
+  where
+    go : (o : Option Broken) → isNone o ≡ true → brokenNumber o ≡ 0
+    go none e = refl
+    go (some r) e = absurd (false≢true e)
 
 -- a block that is not valid has such a number
 pub record Read (b : List ℕ) (n : ℕ) : Type 0 where
@@ -54,35 +64,53 @@ number-read b f = go (broken b) refl (none-if-valid b ∙ f)
           first = subst (First b) (λ i. record { rule = rule i; at = sym high i }) t;
         }
 
--- ---- past the rules that hold, one after another
+-- ---- past the rules that hold, one after another, and at the one that does not
 
 module _ (b : List ℕ) where
-  abbrev Holds : ℕ → List Asked → Type 0
-  Holds n l = numberOf (20 + n) (lowest l) ≡ 0
-
   abbrev Rest : ℕ → List (List Asked) → Type 0
   Rest n rs = brokenNumber (firstOf n rs) ≡ brokenNumber (broken b)
 
-  pub past-1 : Holds 1 (asks1 b) → Rest 2 (asks2 b ∷ asks3 b ∷ asks4 b ∷ asks5 b ∷ asks6 b ∷ [])
+  abbrev Told : ℕ → List Asked → Type 0
+  Told n l = numberOf (20 + n) (lowest l) ≡ brokenNumber (broken b)
+
+  pub told-1 : v1 b ≡ false → Told 1 (asks1 b)
   unfolding broken
-  past-1 p = number-next 1 (asks1 b) (asks2 b ∷ asks3 b ∷ asks4 b ∷ asks5 b ∷ asks6 b ∷ []) p
+  told-1 f = number-here 1 (asks1 b) (asks2 b ∷ asks3 b ∷ asks4 b ∷ asks5 b ∷ asks6 b ∷ []) (asks1-are b ∙ f)
 
-  pub past-2 : Holds 1 (asks1 b) → Holds 2 (asks2 b) → Rest 3 (asks3 b ∷ asks4 b ∷ asks5 b ∷ asks6 b ∷ [])
-  past-2 p q = number-next 2 (asks2 b) (asks3 b ∷ asks4 b ∷ asks5 b ∷ asks6 b ∷ []) q ∙ past-1 p
+  past-1 : v1 b ≡ true → Rest 2 (asks2 b ∷ asks3 b ∷ asks4 b ∷ asks5 b ∷ asks6 b ∷ [])
+  unfolding broken
+  past-1 h = number-next 1 (asks1 b) (asks2 b ∷ asks3 b ∷ asks4 b ∷ asks5 b ∷ asks6 b ∷ []) (asks1-are b ∙ h)
 
-  pub past-3 : Holds 1 (asks1 b) → Holds 2 (asks2 b) → Holds 3 (asks3 b) → Rest 4 (asks4 b ∷ asks5 b ∷ asks6 b ∷ [])
-  past-3 p q r = number-next 3 (asks3 b) (asks4 b ∷ asks5 b ∷ asks6 b ∷ []) r ∙ past-2 p q
+  pub told-2 : v1 b ≡ true → v2 b ≡ false → Told 2 (asks2 b)
+  told-2 p f = number-here 2 (asks2 b) (asks3 b ∷ asks4 b ∷ asks5 b ∷ asks6 b ∷ []) (asks2-are b ∙ f) ∙ past-1 p
 
-  pub past-4 : Holds 1 (asks1 b) → Holds 2 (asks2 b) → Holds 3 (asks3 b) → Holds 4 (asks4 b) → Rest 5 (asks5 b ∷ asks6 b ∷ [])
-  past-4 p q r s = number-next 4 (asks4 b) (asks5 b ∷ asks6 b ∷ []) s ∙ past-3 p q r
+  past-2 : v1 b ≡ true → v2 b ≡ true → Rest 3 (asks3 b ∷ asks4 b ∷ asks5 b ∷ asks6 b ∷ [])
+  past-2 p h = number-next 2 (asks2 b) (asks3 b ∷ asks4 b ∷ asks5 b ∷ asks6 b ∷ []) (asks2-are b ∙ h) ∙ past-1 p
 
-  pub past-5 : Holds 1 (asks1 b) → Holds 2 (asks2 b) → Holds 3 (asks3 b) → Holds 4 (asks4 b) → Holds 5 (asks5 b) → Rest 6 (asks6 b ∷ [])
-  past-5 p q r s t = number-next 5 (asks5 b) (asks6 b ∷ []) t ∙ past-4 p q r s
+  pub told-3 : v1 b ≡ true → v2 b ≡ true → v3 b ≡ false → Told 3 (asks3 b)
+  told-3 p q f = number-here 3 (asks3 b) (asks4 b ∷ asks5 b ∷ asks6 b ∷ []) (asks3-are b ∙ f) ∙ past-2 p q
 
-pub number-last : (n : ℕ) (l : List Asked) → numberOf (20 + n) (lowest l) ≡ brokenNumber (firstOf n (l ∷ []))
-unfolding numberOf brokenNumber firstOf brokenOr
-number-last n l = go (lowest l)
-  where
-    go : (y : Option ℕ) → numberOf (20 + n) y ≡ brokenNumber (brokenOr n y (firstOf (suc n) []))
-    go none = refl
-    go (some at) = refl
+  past-3 : v1 b ≡ true → v2 b ≡ true → v3 b ≡ true → Rest 4 (asks4 b ∷ asks5 b ∷ asks6 b ∷ [])
+  past-3 p q h = number-next 3 (asks3 b) (asks4 b ∷ asks5 b ∷ asks6 b ∷ []) (asks3-are b ∙ h) ∙ past-2 p q
+
+  pub told-4 : v1 b ≡ true → v2 b ≡ true → v3 b ≡ true → v4 b ≡ false → Told 4 (asks4 b)
+  told-4 p q r f = number-here 4 (asks4 b) (asks5 b ∷ asks6 b ∷ []) (asks4-are b ∙ f) ∙ past-3 p q r
+
+  past-4 : v1 b ≡ true → v2 b ≡ true → v3 b ≡ true → v4 b ≡ true → Rest 5 (asks5 b ∷ asks6 b ∷ [])
+  past-4 p q r h = number-next 4 (asks4 b) (asks5 b ∷ asks6 b ∷ []) (asks4-are b ∙ h) ∙ past-3 p q r
+
+  pub told-5 : v1 b ≡ true → v2 b ≡ true → v3 b ≡ true → v4 b ≡ true → v5 b ≡ false → Told 5 (asks5 b)
+  told-5 p q r s f = number-here 5 (asks5 b) (asks6 b ∷ []) (asks5-are b ∙ f) ∙ past-4 p q r s
+
+  past-5 : v1 b ≡ true → v2 b ≡ true → v3 b ≡ true → v4 b ≡ true → v5 b ≡ true → Rest 6 (asks6 b ∷ [])
+  past-5 p q r s h = number-next 5 (asks5 b) (asks6 b ∷ []) (asks5-are b ∙ h) ∙ past-4 p q r s
+
+  pub told-6 : v1 b ≡ true → v2 b ≡ true → v3 b ≡ true → v4 b ≡ true → v5 b ≡ true → v6 b ≡ false → Told 6 (asks6 b)
+  told-6 p q r s t f = number-here 6 (asks6 b) ([]) (asks6-are b ∙ f) ∙ past-5 p q r s t
+
+  past-6 : v1 b ≡ true → v2 b ≡ true → v3 b ≡ true → v4 b ≡ true → v5 b ≡ true → v6 b ≡ true → Rest 7 ([])
+  past-6 p q r s t h = number-next 6 (asks6 b) ([]) (asks6-are b ∙ h) ∙ past-5 p q r s t
+
+  pub told-none : v1 b ≡ true → v2 b ≡ true → v3 b ≡ true → v4 b ≡ true → v5 b ≡ true → v6 b ≡ true → 0 ≡ brokenNumber (broken b)
+  unfolding brokenNumber firstOf
+  told-none = past-6

@@ -11,7 +11,7 @@ use Rattle.pulses.specs.Answer.{Answer, refused, given}
 use Rattle.parts.specs.Parts.{blockBytes}
 use Rattle.layout.specs.Valid.{valid, validParts}
 use Rattle.broken.specs.Broken.{broken, brokenNumber}
-use Rattle.broken.proofs.Numbers.{Read, number-read}
+use Rattle.broken.proofs.Numbers.{Read, number-read, number-valid}
 use Rattle.view.specs.Refusal.{refusing, refusalOf, Valid}
 use Rattle.view.specs.Looks.{leaves}
 
@@ -19,6 +19,15 @@ use Rattle.view.specs.Looks.{leaves}
 pub parts-broken : (b : List ℕ) → eqb (length b) blockBytes ≡ true → valid b ≡ false → validParts b ≡ false
 unfolding valid
 parts-broken b p q = sym (ap (λ t. t && validParts b) p) ∙ q
+
+-- and one that is has no number
+pub number-or-none : (b : List ℕ) → length b ≡ blockBytes → brokenNumber (broken b) ≡ cond (valid b) 0 (brokenNumber (broken b))
+unfolding valid
+number-or-none b l = rw (eq-eqb (length b) blockBytes l) (go (validParts b) refl)
+  where
+    go : (t : Bool) → validParts b ≡ t → brokenNumber (broken b) ≡ cond t 0 (brokenNumber (broken b))
+    go true e = number-valid b e
+    go false e = refl
 
 -- a number that is not 0 is the answer, whatever was asked
 pub refuses : {A : Type 0} (b : List ℕ) (a : Answer A) (r : ℕ) → r ≡ refusalOf b → (r ≡ 0 → ⊥) → refused r ≡ refusing b a

@@ -44,9 +44,6 @@ pub fn refusal(block: &[u8]) -> Refusal
     if block.len() != parts::BLOCK {
         return Refusal(1);
     }
-    if block_valid::valid(block) {
-        return Refusal(0);
-    }
     Refusal(block_broken::broken(block))
 }
 

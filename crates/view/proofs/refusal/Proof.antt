@@ -1,8 +1,9 @@
--- Each test is one of the definition's.
+-- The length, and then the number of the rule that is broken, if one is.
 use borrow.Author.Needs.{needs}
-use mathlib.Core.Path.{sym, _∙_}
+use mathlib.Core.Path.{_∙_}
 use borrow.Author.Tests.{eq-eqb, ne-eqb}
 use Rattle.view.specs.Refusal.{refusalOf}
+use Rattle.view.proofs.Refusals.{number-or-none}
 use Rattle.view.proofs.refusal.Statement.{statement}
 use Rattle.view.proofs.refusal.Tie as tie
 
@@ -10,19 +11,12 @@ returns : tie.Need-returns
 unfolding refusalOf
 returns c = rw (ne-eqb _ _ (c .if1 .taken))
 
-valid-requires : tie.Need-valid-requires
-valid-requires c κs = search needs
-
-returns-2 : tie.Need-returns-2
-unfolding refusalOf
-returns-2 c = rw (eq-eqb _ _ (c .before .before .if1 .left), sym (c .before .valid .ensures) ∙ c .if2 .taken)
-
 broken-requires : tie.Need-broken-requires
 broken-requires c κs = search needs
 
-returns-3 : tie.Need-returns-3
+returns-2 : tie.Need-returns-2
 unfolding refusalOf
-returns-3 c = rw (eq-eqb _ _ (c .before .before .before .if1 .left), sym (c .before .before .valid .ensures) ∙ c .before .if2 .left) (c .broken .ensures)
+returns-2 c = rw (eq-eqb _ _ (c .before .if1 .left)) (c .broken .ensures ∙ number-or-none _ (c .before .if1 .left))
 
 pub refusal-spec : {M : Type 1} → statement M
-refusal-spec = tie.close (tie.spec returns valid-requires returns-2 broken-requires returns-3)
+refusal-spec = tie.close (tie.spec returns broken-requires returns-2)

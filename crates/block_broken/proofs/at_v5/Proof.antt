@@ -3,8 +3,8 @@ use borrow.Author.Needs.{needs}
 use borrow.Author.Tests.{eq-eqb, ne-eqb}
 use Rattle.broken.specs.Broken.{asks5, lowest}
 use Rattle.block_found.specs.Found.{foundTold}
-use Rattle.block_broken.proofs.v5.Statement.{statement}
-use Rattle.block_broken.proofs.v5.Tie as tie
+use Rattle.block_broken.proofs.at_v5.Statement.{statement}
+use Rattle.block_broken.proofs.at_v5.Tie as tie
 
 shared-slice-read-if1 : tie.Need-shared-slice-read-if1
 shared-slice-read-if1 c = search needs
@@ -20,5 +20,5 @@ returns-2 : tie.Need-returns-2
 unfolding asks5
 returns-2 c = rw (eq-eqb _ _ (c .before .if1 .left)) (c .set-in .ensures)
 
-pub v5-spec : {M : Type 1} → statement M
-v5-spec = tie.close (tie.spec shared-slice-read-if1 returns set-in-requires returns-2)
+pub at-v5-spec : {M : Type 1} → statement M
+at-v5-spec = tie.close (tie.spec shared-slice-read-if1 returns set-in-requires returns-2)

@@ -5,8 +5,8 @@ use mathlib.Core.Path.{ap, ap₂, _∙_}
 use Rattle.parts.specs.Parts.{maskAt}
 use Rattle.broken.specs.Broken.{asks6, asked, byteOf, lower, lowest}
 use Rattle.broken.proofs.Lowest.{lower-none}
-use Rattle.block_broken.proofs.v6.Statement.{statement}
-use Rattle.block_broken.proofs.v6.Tie as tie
+use Rattle.block_broken.proofs.at_v6.Statement.{statement}
+use Rattle.block_broken.proofs.at_v6.Tie as tie
 
 shared-slice-read-frozen-on : tie.Need-shared-slice-read-frozen-on
 shared-slice-read-frozen-on c = search needs
@@ -37,8 +37,8 @@ returns-2 : tie.Need-returns-2
 unfolding asks6 lowest
 returns-2 c = rw (eq-eqb _ _ (c .before .before .if1 .left)) (c .lower .ensures ∙ ap₂ lower (c .before .before .before .unless .ensures ∙ ap (λ t. byteOf (asked maskAt t)) (c .before .before .before .before .mask-allows .ensures)) (c .before .set-in .ensures))
 
-pub v6-spec : {M : Type 1} → statement M
-v6-spec =
+pub at-v6-spec : {M : Type 1} → statement M
+at-v6-spec =
     tie.close
     (tie.spec
     shared-slice-read-frozen-on

@@ -3,8 +3,8 @@ use borrow.Author.Needs.{needs}
 use mathlib.Core.Path.{ap₂, _∙_}
 use Rattle.broken.specs.Broken.{asks1, lower, lowest}
 use Rattle.broken.proofs.Lowest.{lower-none}
-use Rattle.block_broken.proofs.v1.Statement.{statement}
-use Rattle.block_broken.proofs.v1.Tie as tie
+use Rattle.block_broken.proofs.at_v1.Statement.{statement}
+use Rattle.block_broken.proofs.at_v1.Tie as tie
 
 shared-slice-read-index : tie.Need-shared-slice-read-index
 shared-slice-read-index c = search needs
@@ -34,8 +34,8 @@ returns : tie.Need-returns
 unfolding asks1 lowest
 returns c = c .lower2 .ensures ∙ ap₂ lower (c .before .before .before .at-most2 .ensures) (c .before .lower .ensures ∙ ap₂ lower (c .before .before .unless .ensures) (c .before .before .before .before .at-most .ensures ∙ lower-none _))
 
-pub v1-spec : {M : Type 1} → statement M
-v1-spec =
+pub at-v1-spec : {M : Type 1} → statement M
+at-v1-spec =
     tie.close
     (tie.spec
     shared-slice-read-index

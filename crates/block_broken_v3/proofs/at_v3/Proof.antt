@@ -11,8 +11,8 @@ use Rattle.block_receiver.proofs.Bytes.{part-bytes}
 use Rattle.broken.specs.Broken.{between, later, asks3, asksOf, byteOf, lower, lowest}
 use Rattle.broken.proofs.Lowest.{lowest-append}
 use Rattle.block_found.specs.Found.{foundTold}
-use Rattle.block_broken_v3.proofs.v3.Statement.{statement}
-use Rattle.block_broken_v3.proofs.v3.Tie as tie
+use Rattle.block_broken_v3.proofs.at_v3.Statement.{statement}
+use Rattle.block_broken_v3.proofs.at_v3.Tie as tie
 
 shared-slice-read-stage : tie.Need-shared-slice-read-stage
 shared-slice-read-stage c = search needs
@@ -51,8 +51,8 @@ returns-4 : tie.Need-returns-4
 unfolding asks3 lowest lower byteOf foundTold
 returns-4 c = rw (lt-leb (getD (now (c .before .before .before .before .before .args .block)) stageAt 0) 2 (omega arith))
 
-pub v3-spec : {M : Type 1} → statement M
-v3-spec =
+pub at-v3-spec : {M : Type 1} → statement M
+at-v3-spec =
     tie.close
     (tie.spec
     shared-slice-read-stage

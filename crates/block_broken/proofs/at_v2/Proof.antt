@@ -3,8 +3,8 @@ use borrow.Author.Needs.{needs}
 use mathlib.Core.Path.{ap, ap₂, _∙_}
 use Rattle.parts.specs.Parts.{p15At}
 use Rattle.broken.specs.Broken.{asks2, asked, byteOf, lower, lowest}
-use Rattle.block_broken.proofs.v2.Statement.{statement}
-use Rattle.block_broken.proofs.v2.Tie as tie
+use Rattle.block_broken.proofs.at_v2.Statement.{statement}
+use Rattle.block_broken.proofs.at_v2.Tie as tie
 
 shared-slice-read-lines-agree : tie.Need-shared-slice-read-lines-agree
 shared-slice-read-lines-agree c = search needs
@@ -55,8 +55,8 @@ returns : tie.Need-returns
 unfolding asks2 lowest
 returns c = c .lower5 .ensures ∙ ap₂ lower (c .before .at-most4 .ensures) (c .before .before .lower4 .ensures ∙ ap₂ lower (c .before .before .before .at-most3 .ensures) (c .before .before .before .before .lower3 .ensures ∙ ap₂ lower (c .before .before .before .before .before .at-most2 .ensures) (c .before .before .before .before .before .before .lower2 .ensures ∙ ap₂ lower (c .before .before .before .before .before .before .before .at-most .ensures) (c .before .before .before .before .before .before .before .before .lower .ensures ∙ ap₂ lower (c .before .before .before .before .before .before .before .before .before .before .unless .ensures ∙ ap (λ t. byteOf (asked p15At t)) (c .before .before .before .before .before .before .before .before .before .before .before .lines-agree .ensures)) (c .before .before .before .before .before .before .before .before .before .set-in .ensures)))))
 
-pub v2-spec : {M : Type 1} → statement M
-v2-spec =
+pub at-v2-spec : {M : Type 1} → statement M
+at-v2-spec =
     tie.close
     (tie.spec
     shared-slice-read-lines-agree
