@@ -244,18 +244,18 @@ def by_chance(rng):
 def blocks(t, p, few=False):
     """The program on good and damaged blocks, on any length, and where it can't read or write."""
     same = lambda what, data, line: t.same(f"check: {what}", p.run("check", data), f"{line}\n".encode())
+    for size in (0, 1, 16, 1023, 30019, 30021, 30022, 60040):
+        same(f"{size} bytes", bytes(size), "1")
+    same("a block with a line's end behind it", made({}) + b"\n", "1")
+    writings(t, p)
+    readings(t, p)
     for what, changes in GOOD.items():
         same(what, made(changes), "valid")
     for changes, line, _ in DAMAGED:
         same(f"{line}, {shown(changes)}", made(changes), line)
-    for size in (0, 1, 16, 1023, 30019, 30021, 30022, 60040):
-        same(f"{size} bytes", bytes(size), "1")
-    same("a block with a line's end behind it", made({}) + b"\n", "1")
     for number in range(100 if few else 400 * p.scale):
         block = by_chance(random.Random(f"{p.seed} {number}"))
         same(f"damaged block {number} of seed {p.seed}", block, line_of(block))
-    readings(t, p)
-    writings(t, p)
 
 
 def shown(changes):
@@ -263,14 +263,8 @@ def shown(changes):
 
 
 def readings(t, p):
-    """However the input is cut, and input that can't be read or does not end."""
+    """Input that can't be read, however it is cut, and without an end."""
     good, bad = made({}), made({19939: 1})
-    for size in (100, 999, 1000, 16384, 30019, 30020):
-        for block, line in ((good, b"valid\n"), (bad, b"26 at 19939\n"), (bad + b"\0", b"1\n")):
-            pieces = [block[at : at + size] for at in range(0, len(block), size)]
-            t.same(f"check: {len(block)} bytes in reads of {size}", p.in_pieces("check", pieces), line)
-    with open("/dev/zero", "rb") as zeros:
-        t.same("check: an input without end", p.run("check", zeros.fileno()), b"1\n")
     clear = lambda what, ended: t.check(f"check: {what}", ended.said.startswith(b"read: ") and not ended.out, ended.show)
     with_descriptor(lambda fd: clear("input is a folder", p.run("check", fd)), "/", os.O_RDONLY)
     with_descriptor(lambda fd: clear("input is for writing", p.run("check", fd)), os.devnull, os.O_WRONLY)
@@ -281,6 +275,12 @@ def readings(t, p):
     clear("a read fails after some bytes", p.run("check", ours))
     os.close(ours)
     os.close(theirs)
+    for size in (100, 999, 1000, 16384, 30019, 30020):
+        for block, line in ((good, b"valid\n"), (bad, b"26 at 19939\n"), (bad + b"\0", b"1\n")):
+            pieces = [block[at : at + size] for at in range(0, len(block), size)]
+            t.same(f"check: {len(block)} bytes in reads of {size}", p.in_pieces("check", pieces), line)
+    with open("/dev/zero", "rb") as zeros:
+        t.same("check: an input without end", p.run("check", zeros.fileno()), b"1\n")
 
 
 def writings(t, p):
