@@ -41,8 +41,8 @@ pub fn pack(map: [[u8; 20]; 18], bytes: &mut [u8])
     }
 }
 
-// Four cells side by side, the first in the high pair.
-fn four(a: u8, b: u8, c: u8, d: u8) -> u8
+// Four cells side by side, the first in the high pair. Of each the low two bits are kept.
+pub fn four(a: u8, b: u8, c: u8, d: u8) -> u8
     ensures { λ r. ⌜ r ≡ a % 4 * 64 + b % 4 * 16 + c % 4 * 4 + d % 4 ⌝ }
 {
     (a & 3) << 6 | (b & 3) << 4 | (c & 3) << 2 | d & 3

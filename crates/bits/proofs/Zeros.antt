@@ -15,7 +15,7 @@ use Rattle.bits.proofs.Tests.{and-left, and-right, and-assoc, and-yes}
 
 -- ---- a turn of the loop that looks at all of them, and its end
 
-or-zero : (a b : ℕ) → eqb (bitOr a b) 0 ≡ (eqb a 0 && eqb b 0)
+pub or-zero : (a b : ℕ) → eqb (bitOr a b) 0 ≡ (eqb a 0 && eqb b 0)
 or-zero a b = go (eqb a 0) (eqb b 0) refl refl where
   go : (t u : Bool) → eqb a 0 ≡ t → eqb b 0 ≡ u → eqb (bitOr a b) 0 ≡ (t && u)
   go true true e f = eq-eqb (bitOr a b) 0 (omega (arith, or-add-and a b, eqb-true a 0 e, eqb-true b 0 f))

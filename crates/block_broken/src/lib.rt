@@ -7,6 +7,7 @@ ghost use lib.Dec.{eqb, leb};
 ghost use lib.ListN.{length};
 ghost use Rattle.parts.specs.Parts.{blockBytes, kindAt, countdownAt};
 ghost use Rattle.layout.specs.Block.{byte};
+ghost use Rattle.layout.specs.Valid.{Fronted};
 ghost use Rattle.broken.specs.Broken as spec;
 ghost use Rattle.block_found.specs.Found.{foundTold};
 use block_broken_v3::at_v3;
@@ -26,7 +27,7 @@ use block_valid::v5;
 use block_valid::v6;
 
 fn at_v1(block: &[u8]) -> Found
-    requires { ⌜ length (now block) ≡ blockBytes ⌝ }
+    requires { ⌜ Fronted (now block) ⌝ }
     ensures { λ r. ⌜ foundTold r ≡ spec.lowest (spec.asks1 (now (block .entry))) ⌝ }
 {
     let index = block[parts::INDEX];
@@ -39,7 +40,7 @@ fn at_v1(block: &[u8]) -> Found
 }
 
 fn at_v2(block: &[u8]) -> Found
-    requires { ⌜ length (now block) ≡ blockBytes ⌝ }
+    requires { ⌜ Fronted (now block) ⌝ }
     ensures { λ r. ⌜ foundTold r ≡ spec.lowest (spec.asks2 (now (block .entry))) ⌝ }
 {
     let agree = lines_agree(block[parts::P15], block[parts::BOTH]);
@@ -52,7 +53,7 @@ fn at_v2(block: &[u8]) -> Found
 }
 
 fn at_v4(block: &[u8]) -> Found
-    requires { ⌜ length (now block) ≡ blockBytes ⌝ }
+    requires { ⌜ Fronted (now block) ⌝ }
     ensures { λ r. ⌜ foundTold r ≡ spec.lowest (spec.asks4 (now (block .entry))) ⌝ }
 {
     lower(at_most(block, parts::COUNTDOWN, 3), kind(block))
@@ -60,7 +61,7 @@ fn at_v4(block: &[u8]) -> Found
 
 // The kind, by the countdown.
 fn kind(block: &[u8]) -> Found
-    requires { ⌜ length (now block) ≡ blockBytes ⌝ }
+    requires { ⌜ Fronted (now block) ⌝ }
     ensures { λ r. ⌜ foundTold r ≡ spec.byteOf (spec.asked kindAt (cond (eqb (byte countdownAt (now (block .entry))) 0) (eqb (byte kindAt (now (block .entry))) 0) (leb (byte kindAt (now (block .entry))) 4))) ⌝ }
 {
     if block[parts::COUNTDOWN] == 0 {
@@ -70,7 +71,7 @@ fn kind(block: &[u8]) -> Found
 }
 
 fn at_v5(block: &[u8]) -> Found
-    requires { ⌜ length (now block) ≡ blockBytes ⌝ }
+    requires { ⌜ Fronted (now block) ⌝ }
     ensures { λ r. ⌜ foundTold r ≡ spec.lowest (spec.asks5 (now (block .entry))) ⌝ }
 {
     if block[parts::PRESET_ON] != 0 {
@@ -100,6 +101,21 @@ pub fn broken(block: &[u8]) -> u32
     requires { ⌜ length (now block) ≡ blockBytes ⌝ }
     ensures { λ r. ⌜ r ≡ spec.brokenNumber (spec.broken (now (block .entry))) ⌝ }
 {
+    let no = broken_front(block);
+    if no != 0 {
+        return no;
+    }
+    if !v6(block) {
+        return numbered(26, at_v6(block));
+    }
+    0
+}
+
+// The same of V1 to V5, which ask of nothing past the preset: of a block, or of its front alone.
+pub fn broken_front(block: &[u8]) -> u32
+    requires { ⌜ Fronted (now block) ⌝ }
+    ensures { λ r. ⌜ r ≡ spec.brokenNumber (spec.firstOf 1 (spec.frontRules (now (block .entry)))) ⌝ }
+{
     if !v1(block) {
         return numbered(21, at_v1(block));
     }
@@ -114,9 +130,6 @@ pub fn broken(block: &[u8]) -> u32
     }
     if !v5(block) {
         return numbered(25, at_v5(block));
-    }
-    if !v6(block) {
-        return numbered(26, at_v6(block));
     }
     0
 }

@@ -4,6 +4,7 @@ ghost use mathlib.Core.Path.{_≡_};
 ghost use Prim.Native.Nat.{_+_, _*_};
 ghost use lib.ListN.{length, drop};
 ghost use Rattle.parts.specs.Parts.{blockBytes, storeAt, storeBytes};
+ghost use Rattle.layout.specs.Valid.{Fronted};
 ghost use Rattle.bits.specs.Over.{part};
 ghost use Rattle.receiver.specs.declared.Stage.the-variants.{Receiving};
 ghost use Rattle.broken.specs.Broken as spec;
@@ -19,7 +20,7 @@ use receiver::packet_count;
 
 // An idle receiver.
 fn resting(block: &[u8]) -> Found
-    requires { ⌜ length (now block) ≡ blockBytes ⌝ }
+    requires { ⌜ Fronted (now block) ⌝ }
     ensures { λ r. ⌜ foundTold r ≡ spec.lowest (spec.resting (now (block .entry))) ⌝ }
 {
     let held = set_in(block, parts::PACKET, parts::PRESET);
@@ -30,7 +31,7 @@ fn resting(block: &[u8]) -> Found
 
 // The packet that is coming in.
 fn coming(block: &[u8]) -> Found
-    requires { ⌜ length (now block) ≡ blockBytes ⌝ }
+    requires { ⌜ Fronted (now block) ⌝ }
     ensures { λ r. ⌜ foundTold r ≡ spec.lowest (spec.coming (now (block .entry))) ⌝ }
 {
     lower(
@@ -41,7 +42,7 @@ fn coming(block: &[u8]) -> Found
 
 // Nothing is held before the first packet.
 fn first(block: &[u8]) -> Found
-    requires { ⌜ length (now block) ≡ blockBytes ⌝ }
+    requires { ⌜ Fronted (now block) ⌝ }
     ensures { λ r. ⌜ foundTold r ≡ spec.lowest (spec.first (now (block .entry))) ⌝ }
 {
     lower(
@@ -52,7 +53,7 @@ fn first(block: &[u8]) -> Found
 
 // No bit is in between two packets.
 fn between(block: &[u8]) -> Found
-    requires { ⌜ length (now block) ≡ blockBytes ⌝ }
+    requires { ⌜ Fronted (now block) ⌝ }
     ensures { λ r. ⌜ foundTold r ≡ spec.lowest (spec.between (now (block .entry))) ⌝ }
 {
     lower(
@@ -63,7 +64,7 @@ fn between(block: &[u8]) -> Found
 
 // Some packets are in and some are due.
 fn later(block: &[u8]) -> Found
-    requires { ⌜ length (now block) ≡ blockBytes ⌝ }
+    requires { ⌜ Fronted (now block) ⌝ }
     ensures { λ r. ⌜ foundTold r ≡ spec.lowest (spec.later (now (block .entry))) ⌝ }
 {
     let received = block[parts::RECEIVED];
@@ -80,7 +81,7 @@ fn later(block: &[u8]) -> Found
 
 // The store behind the packets that are in. Behind seven there is none.
 fn past(block: &[u8], received: u8) -> Found
-    requires { ⌜ length (now block) ≡ blockBytes ⌝ }
+    requires { ⌜ Fronted (now block) ⌝ }
     ensures { λ r. ⌜ foundTold r ≡ spec.lowest (spec.zeroFrom (storeAt + 16 * received) (drop (16 * received) (part storeAt storeBytes (now (block .entry))))) ⌝ }
 {
     if received > 7 {
@@ -94,7 +95,7 @@ fn past(block: &[u8], received: u8) -> Found
 }
 
 fn receiving(block: &[u8]) -> Found
-    requires { ⌜ length (now block) ≡ blockBytes ⌝ }
+    requires { ⌜ Fronted (now block) ⌝ }
     ensures { λ r. ⌜ foundTold r ≡ spec.lowest (spec.asksOf Receiving (now (block .entry))) ⌝ }
 {
     if block[parts::RECEIVED] == 0 {
@@ -105,7 +106,7 @@ fn receiving(block: &[u8]) -> Found
 
 // By the receiver's stage. One that there isn't is told, and nothing else.
 pub fn at_v3(block: &[u8]) -> Found
-    requires { ⌜ length (now block) ≡ blockBytes ⌝ }
+    requires { ⌜ Fronted (now block) ⌝ }
     ensures { λ r. ⌜ foundTold r ≡ spec.lowest (spec.asks3 (now (block .entry))) ⌝ }
 {
     let stage = block[parts::STAGE];

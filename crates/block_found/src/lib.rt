@@ -7,6 +7,7 @@ ghost use lib.Dec.{leb};
 ghost use lib.ListN.{length};
 ghost use Rattle.parts.specs.Parts.{blockBytes, headerBytes, packetAt, packetBytes};
 ghost use Rattle.layout.specs.Block.{byte};
+ghost use Rattle.layout.specs.Valid.{Fronted};
 ghost use Rattle.bits.specs.Over.{part};
 ghost use Rattle.broken.specs.Broken.{asked, zeroAt, byteOf, lower, lowest, zeroFrom, clearFrom};
 ghost use Rattle.block_found.specs.Found.{foundTold, firstSet};
@@ -26,14 +27,14 @@ pub fn unless(holds: bool, at: u16) -> Found
 
 // A byte of the header that is to be at most so much, and one that is to be zero.
 pub fn at_most(block: &[u8], at: usize, most: u8) -> Found
-    requires { ⌜ (length (now block) ≡ blockBytes) × (at < headerBytes) ⌝ }
+    requires { ⌜ Fronted (now block) × (at < headerBytes) ⌝ }
     ensures { λ r. ⌜ foundTold r ≡ byteOf (asked at (leb (byte at (now (block .entry))) most)) ⌝ }
 {
     unless(block[at] <= most, at as u16)
 }
 
 pub fn zero_at(block: &[u8], at: usize) -> Found
-    requires { ⌜ (length (now block) ≡ blockBytes) × (at < headerBytes) ⌝ }
+    requires { ⌜ Fronted (now block) × (at < headerBytes) ⌝ }
     ensures { λ r. ⌜ foundTold r ≡ byteOf (zeroAt at (now (block .entry))) ⌝ }
 {
     unless(block[at] == 0, at as u16)
@@ -86,7 +87,7 @@ fn skip(s: &[u8], from: usize, size: usize) -> usize
 
 // The first byte of a part that isn't zero.
 pub fn set_in(block: &[u8], from: usize, to: usize) -> Found
-    requires { ⌜ (length (now block) ≡ blockBytes) × ((from ≤ to) × (to ≤ blockBytes)) ⌝ }
+    requires { ⌜ (from ≤ to) × ((to ≤ length (now block)) × (length (now block) ≤ blockBytes)) ⌝ }
     ensures { λ r. ⌜ foundTold r ≡ lowest (zeroFrom from (part from (to - from) (now (block .entry)))) ⌝ }
 {
     let n = first_set(&block[from..to]);
@@ -98,7 +99,7 @@ pub fn set_in(block: &[u8], from: usize, to: usize) -> Found
 
 // The first byte of the current packet with a bit at the bit index or past it.
 pub fn bits_past(block: &[u8], index: u8) -> Found
-    requires { ⌜ length (now block) ≡ blockBytes ⌝ }
+    requires { ⌜ Fronted (now block) ⌝ }
     ensures { λ r. ⌜ foundTold r ≡ lowest (clearFrom index packetAt (part packetAt packetBytes (now (block .entry)))) ⌝ }
 {
     let mut left = index;

@@ -17,7 +17,7 @@ use receiver::packet_count;
 
 // By the receiver's stage, which is 0, 1 or 2.
 pub fn v3(block: &[u8]) -> bool
-    requires { ⌜ length (now block) ≡ blockBytes ⌝ }
+    requires { ⌜ spec.Fronted (now block) ⌝ }
     ensures { λ r. ⌜ r ≡ spec.v3 (now (block .entry)) ⌝ }
 {
     let stage = block[parts::STAGE];
@@ -35,7 +35,7 @@ pub fn v3(block: &[u8]) -> bool
 
 // An idle receiver holds nothing.
 fn idle(block: &[u8]) -> bool
-    requires { ⌜ length (now block) ≡ blockBytes ⌝ }
+    requires { ⌜ spec.Fronted (now block) ⌝ }
     ensures { λ r. ⌜ r ≡ v3At Idle (load (now (block .entry)) .port .rx) (load (now (block .entry)) .port .store) ⌝ }
 {
     if block[parts::EXPECTED] != 0 {
@@ -55,7 +55,7 @@ fn idle(block: &[u8]) -> bool
 
 // Up to 128 bits of the packet are in, and none of those to come is set; on the first packet nothing else is held.
 fn receiving(block: &[u8]) -> bool
-    requires { ⌜ length (now block) ≡ blockBytes ⌝ }
+    requires { ⌜ spec.Fronted (now block) ⌝ }
     ensures { λ r. ⌜ r ≡ v3At Receiving (load (now (block .entry)) .port .rx) (load (now (block .entry)) .port .store) ⌝ }
 {
     let bits = block[parts::BITS];
@@ -80,7 +80,7 @@ fn receiving(block: &[u8]) -> bool
 
 // Between two packets no bit is in.
 fn awaiting(block: &[u8]) -> bool
-    requires { ⌜ length (now block) ≡ blockBytes ⌝ }
+    requires { ⌜ spec.Fronted (now block) ⌝ }
     ensures { λ r. ⌜ r ≡ v3At Awaiting (load (now (block .entry)) .port .rx) (load (now (block .entry)) .port .store) ⌝ }
 {
     if block[parts::BITS] != 0 {
@@ -111,7 +111,7 @@ fn clear_from(lo: u64, hi: u64, bits: u8) -> bool
 
 // Some packets are in and some are due, as the store's first byte counts them, and the store holds no more than those.
 fn some_in(block: &[u8]) -> bool
-    requires { ⌜ length (now block) ≡ blockBytes ⌝ }
+    requires { ⌜ spec.Fronted (now block) ⌝ }
     ensures { λ r. ⌜ r ≡ later (load (now (block .entry)) .port .rx .expected) (load (now (block .entry)) .port .rx .received) (load (now (block .entry)) .port .store) ⌝ }
 {
     let received = block[parts::RECEIVED];

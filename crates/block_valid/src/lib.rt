@@ -10,7 +10,7 @@ use bits::all_zero;
 
 // Mask mode and joypad mask are 3 or less, and the mask has every bit that the index has.
 pub fn v1(block: &[u8]) -> bool
-    requires { ⌜ length (now block) ≡ blockBytes ⌝ }
+    requires { ⌜ spec.Fronted (now block) ⌝ }
     ensures { λ r. ⌜ r ≡ spec.v1 (now (block .entry)) ⌝ }
 {
     if block[parts::MASK] > 3 {
@@ -26,7 +26,7 @@ pub fn v1(block: &[u8]) -> bool
 
 // The four flags are 0 or 1, both lines are high only if P15 is, and the spare bytes hold nothing.
 pub fn v2(block: &[u8]) -> bool
-    requires { ⌜ length (now block) ≡ blockBytes ⌝ }
+    requires { ⌜ spec.Fronted (now block) ⌝ }
     ensures { λ r. ⌜ r ≡ spec.v2 (now (block .entry)) ⌝ }
 {
     if block[parts::P15] > 1 {
@@ -56,7 +56,7 @@ pub fn lines_agree(p15: u8, both: u8) -> bool
 
 // Nothing is pending, or one of the five kinds is, with 1, 2 or 3 screens to go.
 pub fn v4(block: &[u8]) -> bool
-    requires { ⌜ length (now block) ≡ blockBytes ⌝ }
+    requires { ⌜ spec.Fronted (now block) ⌝ }
     ensures { λ r. ⌜ r ≡ spec.v4 (now (block .entry)) ⌝ }
 {
     let countdown = block[parts::COUNTDOWN];
@@ -72,7 +72,7 @@ pub fn v4(block: &[u8]) -> bool
 
 // A preset that is not in force is all zeros.
 pub fn v5(block: &[u8]) -> bool
-    requires { ⌜ length (now block) ≡ blockBytes ⌝ }
+    requires { ⌜ spec.Fronted (now block) ⌝ }
     ensures { λ r. ⌜ r ≡ spec.v5 (now (block .entry)) ⌝ }
 {
     if block[parts::PRESET_ON] != 0 {

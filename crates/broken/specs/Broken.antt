@@ -149,6 +149,10 @@ firstOf n (r ∷ rs) = brokenOr n (lowest r) (firstOf (suc n) rs)
 abbrev pub rules : List ℕ → List (List Asked)
 rules b = asks1 b ∷ asks2 b ∷ asks3 b ∷ asks4 b ∷ asks5 b ∷ asks6 b ∷ []
 
+-- those that ask of nothing past the preset
+abbrev pub frontRules : List ℕ → List (List Asked)
+frontRules b = asks1 b ∷ asks2 b ∷ asks3 b ∷ asks4 b ∷ asks5 b ∷ []
+
 -- of a block of the right length
 unfoldable pub broken : List ℕ → Option Broken
 broken b = firstOf 1 (rules b)

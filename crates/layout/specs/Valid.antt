@@ -1,5 +1,5 @@
 -- Which blocks are valid: V1 to V6, RULES 1.6 to 1.12, in that order. Each is a test, as code can make it.
-use Prim.Native.Nat.{ℕ}
+use Prim.Native.Nat.{ℕ, _≤_}
 use mathlib.Core.Path.{_≡_}
 use mathlib.Core.Bool.{Bool, true, _&&_, _||_, cond}
 use mathlib.Core.List.{List}
@@ -11,7 +11,7 @@ use Rattle.bits.specs.Over.{part}
 use Rattle.bits.specs.Zero.{zeros}
 use Rattle.receiver.specs.Receive.{Rx}
 use Rattle.receiver.specs.Valid.{v3 as receiverValid}
-use Rattle.parts.specs.Parts.{blockBytes, maskAt, indexAt, padsAt, p15At, bothAt, stageAt, expectedAt, receivedAt, bitsAt, presetOnAt, countdownAt, kindAt, frozenOnAt, spareAt, spareBytes, packetAt, packetBytes, storeAt, storeBytes, presetAt, presetBytes, captureBytes, frozenAt}
+use Rattle.parts.specs.Parts.{blockBytes, maskAt, indexAt, padsAt, p15At, bothAt, stageAt, expectedAt, receivedAt, bitsAt, presetOnAt, countdownAt, kindAt, frozenOnAt, spareAt, spareBytes, packetAt, packetBytes, storeAt, storeBytes, presetAt, presetBytes, palettesAt, captureBytes, frozenAt}
 use Rattle.layout.specs.Block.{byte, isSet, stageOf, valueOf}
 
 -- mask mode and joypad mask are 3 or less, and the mask has every bit that the index has
@@ -76,6 +76,10 @@ validParts b = v1 b && (v2 b && (v3 b && (v4 b && (v5 b && v6 b))))
 
 unfoldable pub valid : List ℕ → Bool
 valid b = eqb (length b) blockBytes && validParts b
+
+-- what the tests of V1 to V5 ask for: a block, or as much of its front as they look at, which is all before the palettes
+abbrev pub Fronted : List ℕ → Type 0
+Fronted b = (palettesAt ≤ length b) × (length b ≤ blockBytes)
 
 -- what a worker on the block asks for: a valid block. Its length, which the test says too, stands by itself, so that an index is seen to
 -- be within it

@@ -1,97 +1,20 @@
--- Past each rule whose test holds; the byte of the first that fails.
+-- One of V1 to V5, or V6 behind them.
 use borrow.Author.Needs.{needs}
 use borrow.Author.Tests.{not-true, not-false}
 use mathlib.Core.Path.{ap, sym, _∙_}
 use denote.Ref.{now}
 use Rattle.broken.specs.Broken.{numberOf}
-use Rattle.broken.proofs.Numbers.{told-1, told-2, told-3, told-4, told-5, told-6, told-none}
+use Rattle.broken.proofs.Numbers.{told-front, told-6, told-all}
 use Rattle.block_broken.proofs.broken.Statement.{statement}
 use Rattle.block_broken.proofs.broken.Tie as tie
 
-v1-requires : tie.Need-v1-requires
-v1-requires c κs = search needs
-
-at-v1-requires : tie.Need-at-v1-requires
-at-v1-requires c κs = search needs
-
-numbered-requires : tie.Need-numbered-requires
-numbered-requires c κs = search needs
+broken-front-requires : tie.Need-broken-front-requires
+broken-front-requires c κs = search needs
 
 returns : tie.Need-returns
 returns c =
-    let b = now (c .before .before .before .before .before .args .block) in
-    let f = sym (c .before .before .before .v1 .ensures) ∙ not-true _ (c .before .before .if1 .taken) in
-    c .numbered .ensures ∙ ap (numberOf 21) (c .before .at-v1 .ensures) ∙ told-1 b f
-
-v2-requires : tie.Need-v2-requires
-v2-requires c κs = search needs
-
-at-v2-requires : tie.Need-at-v2-requires
-at-v2-requires c κs = search needs
-
-numbered-requires-2 : tie.Need-numbered-requires-2
-numbered-requires-2 c κs = search needs
-
-returns-2 : tie.Need-returns-2
-returns-2 c =
-    let b = now (c .before .before .before .before .before .before .before .args .block) in
-    let h1 = sym (c .before .before .before .before .before .v1 .ensures) ∙ not-false _ (c .before .before .before .before .if1 .left) in
-    let f = sym (c .before .before .before .v2 .ensures) ∙ not-true _ (c .before .before .if2 .taken) in
-    c .numbered2 .ensures ∙ ap (numberOf 22) (c .before .at-v2 .ensures) ∙ told-2 b h1 f
-
-v3-requires : tie.Need-v3-requires
-v3-requires c κs = search needs
-
-at-v3-requires : tie.Need-at-v3-requires
-at-v3-requires c κs = search needs
-
-numbered-requires-3 : tie.Need-numbered-requires-3
-numbered-requires-3 c κs = search needs
-
-returns-3 : tie.Need-returns-3
-returns-3 c =
-    let b = now (c .before .before .before .before .before .before .before .before .before .args .block) in
-    let h1 = sym (c .before .before .before .before .before .before .before .v1 .ensures) ∙ not-false _ (c .before .before .before .before .before .before .if1 .left) in
-    let h2 = sym (c .before .before .before .before .before .v2 .ensures) ∙ not-false _ (c .before .before .before .before .if2 .left) in
-    let f = sym (c .before .before .before .v3 .ensures) ∙ not-true _ (c .before .before .if3 .taken) in
-    c .numbered3 .ensures ∙ ap (numberOf 23) (c .before .at-v3 .ensures) ∙ told-3 b h1 h2 f
-
-v4-requires : tie.Need-v4-requires
-v4-requires c κs = search needs
-
-at-v4-requires : tie.Need-at-v4-requires
-at-v4-requires c κs = search needs
-
-numbered-requires-4 : tie.Need-numbered-requires-4
-numbered-requires-4 c κs = search needs
-
-returns-4 : tie.Need-returns-4
-returns-4 c =
-    let b = now (c .before .before .before .before .before .before .before .before .before .before .before .args .block) in
-    let h1 = sym (c .before .before .before .before .before .before .before .before .before .v1 .ensures) ∙ not-false _ (c .before .before .before .before .before .before .before .before .if1 .left) in
-    let h2 = sym (c .before .before .before .before .before .before .before .v2 .ensures) ∙ not-false _ (c .before .before .before .before .before .before .if2 .left) in
-    let h3 = sym (c .before .before .before .before .before .v3 .ensures) ∙ not-false _ (c .before .before .before .before .if3 .left) in
-    let f = sym (c .before .before .before .v4 .ensures) ∙ not-true _ (c .before .before .if4 .taken) in
-    c .numbered4 .ensures ∙ ap (numberOf 24) (c .before .at-v4 .ensures) ∙ told-4 b h1 h2 h3 f
-
-v5-requires : tie.Need-v5-requires
-v5-requires c κs = search needs
-
-at-v5-requires : tie.Need-at-v5-requires
-at-v5-requires c κs = search needs
-
-numbered-requires-5 : tie.Need-numbered-requires-5
-numbered-requires-5 c κs = search needs
-
-returns-5 : tie.Need-returns-5
-returns-5 c =
-    let b = now (c .before .before .before .before .before .before .before .before .before .before .before .before .before .args .block) in
-    let h1 = sym (c .before .before .before .before .before .before .before .before .before .before .before .v1 .ensures) ∙ not-false _ (c .before .before .before .before .before .before .before .before .before .before .if1 .left) in
-    let h2 = sym (c .before .before .before .before .before .before .before .before .before .v2 .ensures) ∙ not-false _ (c .before .before .before .before .before .before .before .before .if2 .left) in
-    let h3 = sym (c .before .before .before .before .before .before .before .v3 .ensures) ∙ not-false _ (c .before .before .before .before .before .before .if3 .left) in
-    let h4 = sym (c .before .before .before .before .before .v4 .ensures) ∙ not-false _ (c .before .before .before .before .if4 .left) in
-    let f = sym (c .before .before .before .v5 .ensures) ∙ not-true _ (c .before .before .if5 .taken) in
-    c .numbered5 .ensures ∙ ap (numberOf 25) (c .before .at-v5 .ensures) ∙ told-5 b h1 h2 h3 h4 f
+    let r = c .before .broken-front in
+    r .ensures ∙ told-front (now (c .before .before .before .args .block)) (λ z. c .if1 .taken (r .ensures ∙ z))
 
 v6-requires : tie.Need-v6-requires
 v6-requires c κs = search needs
@@ -99,57 +22,31 @@ v6-requires c κs = search needs
 at-v6-requires : tie.Need-at-v6-requires
 at-v6-requires c κs = search needs
 
-numbered-requires-6 : tie.Need-numbered-requires-6
-numbered-requires-6 c κs = search needs
+numbered-requires : tie.Need-numbered-requires
+numbered-requires c κs = search needs
 
-returns-6 : tie.Need-returns-6
-returns-6 c =
-    let b = now (c .before .before .before .before .before .before .before .before .before .before .before .before .before .before .before .args .block) in
-    let h1 = sym (c .before .before .before .before .before .before .before .before .before .before .before .before .before .v1 .ensures) ∙ not-false _ (c .before .before .before .before .before .before .before .before .before .before .before .before .if1 .left) in
-    let h2 = sym (c .before .before .before .before .before .before .before .before .before .before .before .v2 .ensures) ∙ not-false _ (c .before .before .before .before .before .before .before .before .before .before .if2 .left) in
-    let h3 = sym (c .before .before .before .before .before .before .before .before .before .v3 .ensures) ∙ not-false _ (c .before .before .before .before .before .before .before .before .if3 .left) in
-    let h4 = sym (c .before .before .before .before .before .before .before .v4 .ensures) ∙ not-false _ (c .before .before .before .before .before .before .if4 .left) in
-    let h5 = sym (c .before .before .before .before .before .v5 .ensures) ∙ not-false _ (c .before .before .before .before .if5 .left) in
-    let f = sym (c .before .before .before .v6 .ensures) ∙ not-true _ (c .before .before .if6 .taken) in
-    c .numbered6 .ensures ∙ ap (numberOf 26) (c .before .at-v6 .ensures) ∙ told-6 b h1 h2 h3 h4 h5 f
+returns-2 : tie.Need-returns-2
+returns-2 c =
+    let b = now (c .before .before .before .before .before .before .before .args .block) in
+    let z = sym (c .before .before .before .before .before .broken-front .ensures) ∙ c .before .before .before .before .if1 .left in
+    let f = sym (c .before .before .before .v6 .ensures) ∙ not-true _ (c .before .before .if2 .taken) in
+    c .numbered .ensures ∙ ap (numberOf 26) (c .before .at-v6 .ensures) ∙ told-6 b z f
 
-returns-7 : tie.Need-returns-7
-returns-7 c =
-    let b = now (c .before .before .before .before .before .before .before .before .before .before .before .before .before .args .block) in
-    let h1 = sym (c .before .before .before .before .before .before .before .before .before .before .before .v1 .ensures) ∙ not-false _ (c .before .before .before .before .before .before .before .before .before .before .if1 .left) in
-    let h2 = sym (c .before .before .before .before .before .before .before .before .before .v2 .ensures) ∙ not-false _ (c .before .before .before .before .before .before .before .before .if2 .left) in
-    let h3 = sym (c .before .before .before .before .before .before .before .v3 .ensures) ∙ not-false _ (c .before .before .before .before .before .before .if3 .left) in
-    let h4 = sym (c .before .before .before .before .before .v4 .ensures) ∙ not-false _ (c .before .before .before .before .if4 .left) in
-    let h5 = sym (c .before .before .before .v5 .ensures) ∙ not-false _ (c .before .before .if5 .left) in
-    let h6 = sym (c .before .v6 .ensures) ∙ not-false _ (c .if6 .left) in
-    told-none b h1 h2 h3 h4 h5 h6
+returns-3 : tie.Need-returns-3
+returns-3 c =
+    let b = now (c .before .before .before .before .before .args .block) in
+    let z = sym (c .before .before .before .broken-front .ensures) ∙ c .before .before .if1 .left in
+    let h = sym (c .before .v6 .ensures) ∙ not-false _ (c .if2 .left) in
+    told-all b z h
 
 pub broken-spec : {M : Type 1} → statement M
 broken-spec =
     tie.close
     (tie.spec
-    v1-requires
-    at-v1-requires
-    numbered-requires
+    broken-front-requires
     returns
-    v2-requires
-    at-v2-requires
-    numbered-requires-2
-    returns-2
-    v3-requires
-    at-v3-requires
-    numbered-requires-3
-    returns-3
-    v4-requires
-    at-v4-requires
-    numbered-requires-4
-    returns-4
-    v5-requires
-    at-v5-requires
-    numbered-requires-5
-    returns-5
     v6-requires
     at-v6-requires
-    numbered-requires-6
-    returns-6
-    returns-7)
+    numbered-requires
+    returns-2
+    returns-3)
