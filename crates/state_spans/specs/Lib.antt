@@ -1,0 +1,4 @@
+pub mod State
+pub mod Coming
+pub mod Going
+pub mod Forgotten
