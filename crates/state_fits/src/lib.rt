@@ -4,7 +4,7 @@ ghost use mathlib.Core.Path.{_≡_};
 ghost use mathlib.Core.Bool.{_&&_};
 ghost use Prim.Native.Nat.{_<_};
 ghost use Rattle.bits.specs.Bit.{bitOf};
-ghost use Rattle.state_spans.specs.State.{spanIf};
+ghost use Rattle.state_spans.specs.State.{spanIf, stateLent};
 ghost use Rattle.state_spans.specs.Coming as spec;
 use bits::wide;
 
@@ -40,7 +40,7 @@ fn may_have(present: u16, k: u16, span: &[u8], n: usize) -> bool
     span.len() == n
 }
 
-pub fn front_fits(fields: &[u8], present: u16, packet: &[u8], packets: &[u8], preset: &[u8]) -> bool
+fn front_fits(fields: &[u8], present: u16, packet: &[u8], packets: &[u8], preset: &[u8]) -> bool
     ensures { λ r. ⌜ r ≡ spec.frontFits (now (fields .entry)) (spanIf 4 present (now (packet .entry))) (spanIf 5 present (now (packets .entry))) (spanIf 8 present (now (preset .entry))) ⌝ }
 {
     if fields.len() != FIELDS {
@@ -75,7 +75,7 @@ fn preset_fits(in_force: u8, present: u16, preset: &[u8]) -> bool
     has(present, 8, preset, parts::PRESET_BYTES)
 }
 
-pub fn tables_fit(
+fn tables_fit(
     present: u16,
     palettes: &[u8],
     attribute_map: &[u8],
@@ -96,7 +96,7 @@ pub fn tables_fit(
     has(present, 3, attribute_files, 4 * parts::FILES_BYTES)
 }
 
-pub fn captures_fit(present: u16, capture: &[u8], frozen_capture: &[u8]) -> bool
+fn captures_fit(present: u16, capture: &[u8], frozen_capture: &[u8]) -> bool
     ensures { λ r. ⌜ r ≡ spec.capturesFit (spanIf 6 present (now (capture .entry))) (spanIf 7 present (now («frozen_capture» .entry))) ⌝ }
 {
     if !has(present, 6, capture, 4 * parts::CAPTURE_BYTES) {
@@ -118,12 +118,7 @@ pub fn whole_border(present: u16) -> bool
     there(present, 11)
 }
 
-pub fn border_fits(
-    present: u16,
-    border_tiles: &[u8],
-    border_map: &[u8],
-    border_palettes: &[u8],
-) -> bool
+fn border_fits(present: u16, border_tiles: &[u8], border_map: &[u8], border_palettes: &[u8]) -> bool
     ensures { λ r. ⌜ r ≡ spec.borderFits (spanIf 9 present (now («border_tiles» .entry))) (spanIf 10 present (now («border_map» .entry))) (spanIf 11 present (now («border_palettes» .entry))) ⌝ }
 {
     if !whole_border(present) {
@@ -136,4 +131,41 @@ pub fn border_fits(
         return false;
     }
     border_palettes.len() == parts::BORDER_PALETTES_BYTES
+}
+
+// All of them.
+pub fn fits(
+    fields: &[u8],
+    present: u16,
+    palettes: &[u8],
+    attribute_map: &[u8],
+    system_palettes: &[u8],
+    attribute_files: &[u8],
+    packet: &[u8],
+    packets: &[u8],
+    capture: &[u8],
+    frozen_capture: &[u8],
+    preset: &[u8],
+    border_tiles: &[u8],
+    border_map: &[u8],
+    border_palettes: &[u8],
+) -> bool
+    ensures { λ r. ⌜ r ≡ spec.fits (stateLent (now (fields .entry)) present (now (palettes .entry)) (now («attribute_map» .entry)) (now («system_palettes» .entry)) (now («attribute_files» .entry)) (now (packet .entry)) (now (packets .entry)) (now (capture .entry)) (now («frozen_capture» .entry)) (now (preset .entry)) (now («border_tiles» .entry)) (now («border_map» .entry)) (now («border_palettes» .entry))) ⌝ }
+{
+    if !front_fits(fields, present, packet, packets, preset) {
+        return false;
+    }
+    if !tables_fit(
+        present,
+        palettes,
+        attribute_map,
+        system_palettes,
+        attribute_files,
+    ) {
+        return false;
+    }
+    if !captures_fit(present, capture, frozen_capture) {
+        return false;
+    }
+    border_fits(present, border_tiles, border_map, border_palettes)
 }

@@ -5,7 +5,7 @@ use mathlib.Core.List.{List, [], _∷_, _++_, map}
 use Prim.Native.Nat.{ℕ, zero, suc, _+_, _-_, _≤_}
 use native.Mathlib.Nat.{sub-zero, zero-sub, suc-sub-suc}
 use native.Mathlib.Omega.{arith}
-use lib.ListN.{length, getD, set, replicate, drop, drop-of-length-le, length-append, length-replicate}
+use lib.ListN.{length, getD, set, replicate, drop, drop-of-length-le}
 use lib.Dec.{lit<}
 use Rattle.bits.specs.Over.{over, part}
 use Rattle.layout.specs.Block.{flat}
@@ -50,9 +50,6 @@ drop-zeros (suc n) (suc m) = rw (suc-sub-suc) (drop-zeros n m)
 
 abbrev frontSizes : List ℕ
 frontSizes = headerBytes ∷ packetBytes ∷ storeBytes ∷ presetBytes ∷ []
-
-pub store-long : (packets : List ℕ) → length packets ≤ storeBytes → length (packets ++ replicate (storeBytes - length packets) 0) ≡ storeBytes
-store-long packets h = simp (length-append, length-replicate) (omega arith)
 
 -- the packet, and the packets from the store's start on
 pub front-made : (h packet packets : List ℕ) → length h ≡ headerBytes → length packet ≡ packetBytes → length packets ≤ storeBytes

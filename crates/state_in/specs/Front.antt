@@ -1,5 +1,5 @@
 -- Serves the code, which tests V1 to V6 before it writes a byte of the block; nobody need believe it: of the front that a state gives it is the
--- number that V1 to V6 give of the whole block (`front-number` of the crate `state`, proofs/Ruled). V6 asks here for its first part alone, since
+-- number that V1 to V6 give of the whole block (`front-number`, proofs/Ruled). V6 asks here for its first part alone, since
 -- the capture of a state is zeros where none is there.
 use Prim.Native.Nat.{ℕ}
 use mathlib.Core.List.{List, [], _∷_}

@@ -42,7 +42,14 @@ fn flag(on: bool) -> u8
 }
 
 // The front of the block that a state gives: header, current packet, packet store, preset.
-pub fn fill_front(front: &mut [u8], fields: &[u8], frozen: bool, packet: &[u8], packets: &[u8], preset: &[u8])
+pub fn fill_front(
+    front: &mut [u8],
+    fields: &[u8],
+    frozen: bool,
+    packet: &[u8],
+    packets: &[u8],
+    preset: &[u8],
+)
     requires { ⌜ (length (now front) ≡ palettesAt) × ((length (now fields) ≡ fieldBytes) × ((length (now packet) ≡ packetBytes) × ((length (now packets) ≤ storeBytes) × (isSet (getD (now fields) presetOnAt 0) ≡ true → length (now preset) ≡ presetBytes)))) ⌝ }
     ensures { λ _. ⌜ now (front .exit) ≡ spec.frontFrom (now (fields .entry)) (flag frozen) (some (now (packet .entry))) (some (now (packets .entry))) (some (now (preset .entry))) ⌝ }
 {
@@ -114,13 +121,31 @@ pub fn put_captures(block: &mut [u8], capture: &[u8], frozen: bool, frozen_captu
 }
 
 // Its tiles, map and palettes, or zeros where a span is missing.
-pub fn put_border(block: &mut [u8], whole: bool, border_tiles: &[u8], border_map: &[u8], border_palettes: &[u8])
+pub fn put_border(
+    block: &mut [u8],
+    whole: bool,
+    border_tiles: &[u8],
+    border_map: &[u8],
+    border_palettes: &[u8],
+)
     requires { ⌜ (length (now block) ≡ blockBytes) × ((whole ≡ true → length (now «border_tiles») ≡ tilesBytes) × ((whole ≡ true → length (now «border_map») ≡ borderMapBytes) × (whole ≡ true → length (now «border_palettes») ≡ borderPalettesBytes))) ⌝ }
     ensures { λ _. ⌜ now (block .exit) ≡ over borderPalettesAt borderPalettesBytes (spec.borderFrom whole borderPalettesBytes (some (now («border_palettes» .entry)))) (over borderMapAt borderMapBytes (spec.borderFrom whole borderMapBytes (some (now («border_map» .entry)))) (over tilesAt tilesBytes (spec.borderFrom whole tilesBytes (some (now («border_tiles» .entry)))) (now (block .entry)))) ⌝ }
 {
     put_span(block, parts::TILES, parts::BORDER_MAP, whole, border_tiles);
-    put_span(block, parts::BORDER_MAP, parts::BORDER_PALETTES, whole, border_map);
-    put_span(block, parts::BORDER_PALETTES, parts::BLOCK, whole, border_palettes);
+    put_span(
+        block,
+        parts::BORDER_MAP,
+        parts::BORDER_PALETTES,
+        whole,
+        border_map,
+    );
+    put_span(
+        block,
+        parts::BORDER_PALETTES,
+        parts::BLOCK,
+        whole,
+        border_palettes,
+    );
 }
 
 // A span of the border into its part, or zeros.

@@ -1,7 +1,7 @@
 // A block that goes out as a state of the emulator, step by step (RULES 11.6): the room that is lent, and the spans group by group. The call that
 // refuses is the crate `state`. The meaning is `Going` in `state_spans`.
 ghost use mathlib.Core.Path.{_≡_};
-ghost use mathlib.Core.Bool.{cond};
+ghost use mathlib.Core.Bool.{true, cond};
 ghost use mathlib.Core.Option.{some};
 ghost use Prim.Native.Nat.{_≤_};
 ghost use lib.ListN.{length};
@@ -18,7 +18,7 @@ const FIELDS: usize = 12;
 
 // ---- room for the longest that each can be: refusal 6
 
-pub fn front_room(fields: &[u8], packet: &[u8], packets: &[u8], preset: &[u8]) -> bool
+fn front_room(fields: &[u8], packet: &[u8], packets: &[u8], preset: &[u8]) -> bool
     ensures { λ r. ⌜ r ≡ spec.frontRoom (now (fields .entry)) (now (packet .entry)) (now (packets .entry)) (now (preset .entry)) ⌝ }
 {
     if fields.len() < FIELDS {
@@ -33,7 +33,7 @@ pub fn front_room(fields: &[u8], packet: &[u8], packets: &[u8], preset: &[u8]) -
     preset.len() >= parts::PRESET_BYTES
 }
 
-pub fn tables_room(
+fn tables_room(
     palettes: &[u8],
     attribute_map: &[u8],
     system_palettes: &[u8],
@@ -53,7 +53,7 @@ pub fn tables_room(
     attribute_files.len() >= 4 * parts::FILES_BYTES
 }
 
-pub fn captures_room(capture: &[u8], frozen_capture: &[u8]) -> bool
+fn captures_room(capture: &[u8], frozen_capture: &[u8]) -> bool
     ensures { λ r. ⌜ r ≡ spec.capturesRoom (now (capture .entry)) (now («frozen_capture» .entry)) ⌝ }
 {
     if capture.len() < 4 * parts::CAPTURE_BYTES {
@@ -62,7 +62,7 @@ pub fn captures_room(capture: &[u8], frozen_capture: &[u8]) -> bool
     frozen_capture.len() >= 4 * parts::CAPTURE_BYTES
 }
 
-pub fn border_room(border_tiles: &[u8], border_map: &[u8], border_palettes: &[u8]) -> bool
+fn border_room(border_tiles: &[u8], border_map: &[u8], border_palettes: &[u8]) -> bool
     ensures { λ r. ⌜ r ≡ spec.borderRoom (now («border_tiles» .entry)) (now («border_map» .entry)) (now («border_palettes» .entry)) ⌝ }
 {
     if border_tiles.len() < parts::TILES_BYTES {
@@ -74,10 +74,39 @@ pub fn border_room(border_tiles: &[u8], border_map: &[u8], border_palettes: &[u8
     border_palettes.len() >= parts::BORDER_PALETTES_BYTES
 }
 
+pub fn roomy(
+    fields: &[u8],
+    palettes: &[u8],
+    attribute_map: &[u8],
+    system_palettes: &[u8],
+    attribute_files: &[u8],
+    packet: &[u8],
+    packets: &[u8],
+    capture: &[u8],
+    frozen_capture: &[u8],
+    preset: &[u8],
+    border_tiles: &[u8],
+    border_map: &[u8],
+    border_palettes: &[u8],
+) -> bool
+    ensures { λ r. ⌜ r ≡ spec.roomy (spec.lent (now (fields .entry)) (now (palettes .entry)) (now («attribute_map» .entry)) (now («system_palettes» .entry)) (now («attribute_files» .entry)) (now (packet .entry)) (now (packets .entry)) (now (capture .entry)) (now («frozen_capture» .entry)) (now (preset .entry)) (now («border_tiles» .entry)) (now («border_map» .entry)) (now («border_palettes» .entry))) ⌝ }
+{
+    if !front_room(fields, packet, packets, preset) {
+        return false;
+    }
+    if !tables_room(palettes, attribute_map, system_palettes, attribute_files) {
+        return false;
+    }
+    if !captures_room(capture, frozen_capture) {
+        return false;
+    }
+    border_room(border_tiles, border_map, border_palettes)
+}
+
 // ---- the spans
 
 // Fields, current packet, the packets that are in, and the preset if it is in force.
-pub fn lay_front(
+fn lay_front(
     block: &[u8],
     fields: &mut [u8],
     packet: &mut [u8],
@@ -99,7 +128,7 @@ pub fn lay_front(
     }
 }
 
-pub fn lay_tables(
+fn lay_tables(
     block: &[u8],
     palettes: &mut [u8],
     attribute_map: &mut [u8],
@@ -119,7 +148,7 @@ pub fn lay_tables(
 }
 
 // The live capture, and the frozen one if there is one.
-pub fn lay_captures(block: &[u8], capture: &mut [u8], frozen_capture: &mut [u8])
+fn lay_captures(block: &[u8], capture: &mut [u8], frozen_capture: &mut [u8])
     requires { ⌜ (length (now block) ≡ blockBytes) × ((capturePixels ≤ length (now capture)) × (capturePixels ≤ length (now «frozen_capture»))) ⌝ }
     ensures { λ _. ⌜ now (capture .exit) ≡ spec.laid (spec.stateOf (now (block .entry)) .capture) (now (capture .entry)) ⌝ }
     ensures { λ _. ⌜ now («frozen_capture» .exit) ≡ spec.laid (spec.stateOf (now (block .entry)) .frozenCapture) (now («frozen_capture» .entry)) ⌝ }
@@ -130,7 +159,7 @@ pub fn lay_captures(block: &[u8], capture: &mut [u8], frozen_capture: &mut [u8])
     }
 }
 
-pub fn lay_border(
+fn lay_border(
     block: &[u8],
     border_tiles: &mut [u8],
     border_map: &mut [u8],
@@ -152,6 +181,38 @@ pub fn lay_border(
         0,
         &block[parts::BORDER_PALETTES..parts::BLOCK],
     );
+}
+
+// All of them.
+pub fn lay(
+    block: &[u8],
+    fields: &mut [u8],
+    palettes: &mut [u8],
+    attribute_map: &mut [u8],
+    system_palettes: &mut [u8],
+    attribute_files: &mut [u8],
+    packet: &mut [u8],
+    packets: &mut [u8],
+    capture: &mut [u8],
+    frozen_capture: &mut [u8],
+    preset: &mut [u8],
+    border_tiles: &mut [u8],
+    border_map: &mut [u8],
+    border_palettes: &mut [u8],
+)
+    requires { ⌜ (length (now block) ≡ blockBytes) × ((byte receivedAt (now block) ≤ 7) × (spec.roomy (spec.lent (now fields) (now palettes) (now «attribute_map») (now «system_palettes») (now «attribute_files») (now packet) (now packets) (now capture) (now «frozen_capture») (now preset) (now «border_tiles») (now «border_map») (now «border_palettes»)) ≡ true)) ⌝ }
+    ensures { λ _. ⌜ spec.lent (now (fields .exit)) (now (palettes .exit)) (now («attribute_map» .exit)) (now («system_palettes» .exit)) (now («attribute_files» .exit)) (now (packet .exit)) (now (packets .exit)) (now (capture .exit)) (now («frozen_capture» .exit)) (now (preset .exit)) (now («border_tiles» .exit)) (now («border_map» .exit)) (now («border_palettes» .exit)) ≡ spec.laidAll (spec.stateOf (now (block .entry))) (spec.lent (now (fields .entry)) (now (palettes .entry)) (now («attribute_map» .entry)) (now («system_palettes» .entry)) (now («attribute_files» .entry)) (now (packet .entry)) (now (packets .entry)) (now (capture .entry)) (now («frozen_capture» .entry)) (now (preset .entry)) (now («border_tiles» .entry)) (now («border_map» .entry)) (now («border_palettes» .entry))) ⌝ }
+{
+    lay_front(block, fields, packet, packets, preset);
+    lay_tables(
+        block,
+        palettes,
+        attribute_map,
+        system_palettes,
+        attribute_files,
+    );
+    lay_captures(block, capture, frozen_capture);
+    lay_border(block, border_tiles, border_map, border_palettes);
 }
 
 // Which spans are there: all, but for the frozen capture and the preset where there is none.

@@ -1,1 +1,4 @@
 pub mod Spans
+pub mod Fitted
+pub mod Blocks
+pub mod Stored

@@ -31,6 +31,10 @@ unfolding has bytesIn
 has-bytes n true l h = refl
 has-bytes n false l h = absurd (false≢true h)
 
+pub some-bytes : (l : List ℕ) → bytesIn (some l) ≡ l
+unfolding bytesIn
+some-bytes l = refl
+
 -- one that may be missing has its length if it is there
 pub may-long : (n : ℕ) (l : List ℕ) → mayHave n (some l) ≡ true → length l ≡ n
 unfolding mayHave

@@ -11,7 +11,8 @@ use Rattle.layout.specs.Block.{flag}
 use Rattle.parts.specs.Parts.{packetAt, storeAt, storeBytes, presetAt}
 use Rattle.state_spans.specs.State.{bytesIn}
 use Rattle.state_spans.specs.Coming.{headerFrom, storeFrom, presetFrom, frontFrom}
-use Rattle.state_in.proofs.Fronts.{front-made, preset-made, store-long}
+use Rattle.state_in.proofs.Fronts.{front-made, preset-made}
+use Rattle.state_spans.proofs.Blocks.{store-long}
 use borrow.Author.Needs.{needs}
 use Rattle.state_in.proofs.fill_front.Statement.{statement}
 use Rattle.state_in.proofs.fill_front.Tie as tie

@@ -48,10 +48,11 @@ same-length-2 c = search needs
 
 returns : tie.Need-returns
 unfolding stateOf laid
-returns c = let b = now (c .before .before .before .before .before .before .before .before .before .before .before .before .before .before .before .args .block) in
-    (c .before .before .before .before .before .before .before .before .before .unpack-cells .ensures ∙ cells-laid captureBytes (part liveAt captureBytes b) (now (c .before .before .before .before .before .before .before .before .before .before .before .before .before .before .before .args .capture)) (length-part liveAt captureBytes b (omega arith)),
-    rw (eq-eqb _ _ (c .before .before .before .before .before .if1 .taken))
-    (c .before .before .unpack-cells2 .ensures ∙ cells-laid captureBytes (part frozenAt captureBytes b) (now (c .before .before .before .before .before .before .before .before .before .before .before .before .before .before .before .args .frozen-capture)) (length-part frozenAt captureBytes b (omega arith))))
+returns c = let b = now (c .before .before .before .before .before .before .before .before .before .before .before .before .before .before .before .args .block) in (
+  c .before .before .before .before .before .before .before .before .before .unpack-cells .ensures ∙ cells-laid captureBytes (part liveAt captureBytes b) (now (c .before .before .before .before .before .before .before .before .before .before .before .before .before .before .before .args .capture)) (length-part liveAt captureBytes b (omega arith)),
+  rw (eq-eqb _ _ (c .before .before .before .before .before .if1 .taken))
+      (c .before .before .unpack-cells2 .ensures ∙ cells-laid captureBytes (part frozenAt captureBytes b) (now (c .before .before .before .before .before .before .before .before .before .before .before .before .before .before .before .args .frozen-capture)) (length-part frozenAt captureBytes b (omega arith))),
+)
 
 same-length-3 : tie.Need-same-length-3
 same-length-3 c = search needs

@@ -73,11 +73,16 @@ same-length-4 c = search needs
 
 returns : tie.Need-returns
 unfolding stateOf laid
-returns c = let b = now (c .before .before .before .before .before .before .before .before .before .before .before .before .before .before .before .before .before .before .before .before .before .before .before .before .before .args .block) in
-    (c .before .before .before .before .before .before .before .before .before .before .before .before .before .before .before .before .before .put .ensures,
-    (c .before .before .before .before .before .before .before .before .before .before .before .before .unpack-cells .ensures ∙ cells-laid mapBytes (part mapAt mapBytes b) (now (c .before .before .before .before .before .before .before .before .before .before .before .before .before .before .before .before .before .before .before .before .before .before .before .before .before .args .attribute-map)) (length-part mapAt mapBytes b (omega arith)),
-    (c .before .before .before .before .before .before .before .put2 .ensures,
-    c .before .before .unpack-cells2 .ensures ∙ cells-laid filesBytes (part filesAt filesBytes b) (now (c .before .before .before .before .before .before .before .before .before .before .before .before .before .before .before .before .before .before .before .before .before .before .before .before .before .args .attribute-files)) (length-part filesAt filesBytes b (omega arith)))))
+returns c = let b = now (c .before .before .before .before .before .before .before .before .before .before .before .before .before .before .before .before .before .before .before .before .before .before .before .before .before .args .block) in (
+  c .before .before .before .before .before .before .before .before .before .before .before .before .before .before .before .before .before .put .ensures,
+  (
+    c .before .before .before .before .before .before .before .before .before .before .before .before .unpack-cells .ensures ∙ cells-laid mapBytes (part mapAt mapBytes b) (now (c .before .before .before .before .before .before .before .before .before .before .before .before .before .before .before .before .before .before .before .before .before .before .before .before .before .args .attribute-map)) (length-part mapAt mapBytes b (omega arith)),
+    (
+      c .before .before .before .before .before .before .before .put2 .ensures,
+      c .before .before .unpack-cells2 .ensures ∙ cells-laid filesBytes (part filesAt filesBytes b) (now (c .before .before .before .before .before .before .before .before .before .before .before .before .before .before .before .before .before .before .before .before .before .before .before .before .before .args .attribute-files)) (length-part filesAt filesBytes b (omega arith)),
+    ),
+  ),
+)
 
 pub lay-tables-spec : {M : Type 1} → statement M
 lay-tables-spec =
