@@ -22,6 +22,7 @@ use Rattle.broken.specs.Broken.{broken, brokenNumber}
 use Rattle.broken.proofs.Numbers.{number-read}
 use Rattle.view.specs.Refusal.{refusing}
 use Rattle.view.proofs.Refusals.{parts-broken}
+use Rattle.state_spans.specs.Going.{Lent, roomy, toAnswer}
 use Rattle.view.specs.Looks.{modeOf, backdropAnswer, shadeAnswer, entryAnswer, borderAnswer, rowAnswer, pictureAnswer}
 use Rattle.unit.specs.Calls.{packetsAnswered, withRoom, writeAnswer, screenAnswer}
 use Rattle.rules.proofs.Keeps.{WholeIf}
@@ -238,6 +239,10 @@ meaning-numbered noLine = refused-numbered _ 7 (lit≤ tt) (lit≤ tt)
 pub line-numbered : (text bytes : List ℕ) → Numbered (lineAnswer text bytes)
 unfolding lineAnswer
 line-numbered text bytes = test-numbered (leb captureBytes (length bytes)) _ 6 (meaning-numbered (meaningOf text)) (lit≤ tt) (lit≤ tt)
+
+pub to-numbered : (b : List ℕ) (l : Lent) → Numbered (toAnswer b l)
+unfolding toAnswer
+to-numbered b l = refusing-numbered b _ (test-numbered (roomy l) _ 6 (given-numbered _) (lit≤ tt) (lit≤ tt))
 
 -- ---- what `play` answers is told whole
 

@@ -4,6 +4,7 @@ use mathlib.Core.List.{List}
 use Prim.Native.Nat.{ℕ}
 use denote.Ref.{now}
 use Rattle.bits.specs.Determined.{Determined}
+use Rattle.state_spans.specs.Going.{Lent, lent}
 use Rattle.bits.proofs.Determined.{same}
 use Rattle.export.proofs.changing.sporedrift_new.Reads as new
 use Rattle.export.proofs.changing.sporedrift_post_boot.Reads as post-boot
@@ -11,6 +12,8 @@ use Rattle.export.proofs.changing.sporedrift_check.Reads as check
 use Rattle.export.proofs.changing.sporedrift_write_joypad.Reads as write-joypad
 use Rattle.export.proofs.changing.sporedrift_play.Reads as play
 use Rattle.export.proofs.changing.sporedrift_update_screen.Reads as update-screen
+use Rattle.export.proofs.exchanging.sporedrift_from_spans.Reads as from-spans
+use Rattle.export.proofs.exchanging.sporedrift_to_spans.Reads as to-spans
 use Rattle.export.proofs.looking.sporedrift_mask_mode.Reads as mask-mode
 use Rattle.export.proofs.looking.sporedrift_backdrop.Reads as backdrop
 use Rattle.export.proofs.looking.sporedrift_color_at.Reads as color-at
@@ -36,6 +39,14 @@ post-boot-determined k a r s e f p q = λ t. (same r s (p .0) (q .0) t, same _ _
 -- the number alone: nothing is lent to be written
 pub check-determined : (k : _) → Determined ℕ (check.Learnt k) (λ r e. r)
 check-determined k a r s e f p q = same r s p q
+
+-- the number, the block
+pub from-spans-determined : (k : _) → Determined (ℕ × List ℕ) (from-spans.Learnt k) (λ r e. (r, now (e .0)))
+from-spans-determined k a r s e f p q = λ t. (same r s (p .0) (q .0) t, same _ _ (p .1) (q .1) t)
+
+-- the number, the fields and the twelve spans
+pub to-spans-determined : (k : _) → Determined (ℕ × Lent) (to-spans.Learnt k) (λ r e. (r, lent (now (e .1 .0)) (now (e .1 .1 .0)) (now (e .1 .1 .1 .0)) (now (e .1 .1 .1 .1 .0)) (now (e .1 .1 .1 .1 .1 .0)) (now (e .1 .1 .1 .1 .1 .1 .0)) (now (e .1 .1 .1 .1 .1 .1 .1 .0)) (now (e .1 .1 .1 .1 .1 .1 .1 .1 .0)) (now (e .1 .1 .1 .1 .1 .1 .1 .1 .1 .0)) (now (e .1 .1 .1 .1 .1 .1 .1 .1 .1 .1 .0)) (now (e .1 .1 .1 .1 .1 .1 .1 .1 .1 .1 .1 .0)) (now (e .1 .1 .1 .1 .1 .1 .1 .1 .1 .1 .1 .1 .0)) (now (e .1 .1 .1 .1 .1 .1 .1 .1 .1 .1 .1 .1 .1 .0))))
+to-spans-determined k a r s e f p q = λ t. (same r s (p .0) (q .0) t, same _ _ (p .1) (q .1) t)
 
 -- the number, the block, the buffer
 pub write-joypad-determined : (k : _) → Determined (ℕ × List ℕ × List ℕ) (write-joypad.Learnt k) (λ r e. (r, now (e .0), now (e .1 .1 .0)))

@@ -1,13 +1,14 @@
 -- Every number that a call answers leaves the low byte of what crosses free: a mask mode, 256, 57,344, at most 1,820 writes; and so do the
 -- writes that one call takes, with the packets of a command, and those of a line.
-use Prim.Native.Nat.{ℕ, _<_, _≤_}
+use Prim.Native.Nat.{ℕ, suc, _*_, _^_, _<_, _≤_}
+use native.Mathlib.Nat.{pow-suc, lt-of-lt-of-le}
 use native.Mathlib.Omega.{arith}
 use mathlib.Core.Path.{_≡_}
-use mathlib.Core.Bool.{true}
+use mathlib.Core.Bool.{Bool, true, false, cond}
 use mathlib.Core.List.{List, [], _∷_}
 use mathlib.Core.Option.{Option, none, some}
 use borrow.Author.Tests.{leb-true}
-use lib.Dec.{eqb, ltb, leb, lit<}
+use lib.Dec.{eqb, ltb, leb, lit<, lit≤}
 use lib.ListN.{length, getD, take, length-take}
 use Rattle.bits.proofs.Tests.{either}
 use Rattle.receiver.proofs.Sound.{count-few}
@@ -21,6 +22,8 @@ use Rattle.layout.specs.Valid.{valid}
 use Rattle.layout.proofs.Goods.{valid-good}
 use Rattle.view.specs.Refusal.{refusing}
 use Rattle.block_picture.specs.Drawn.{partsOf}
+use Rattle.state_spans.specs.State.{presence}
+use Rattle.state_spans.specs.Going.{Lent, roomy, toAnswer}
 use Rattle.view.specs.Looks.{modeOf, rowAnswer, pictureAnswer}
 use Rattle.hex.specs.Hex.{bytesOf}
 use Rattle.log_line.specs.Line.{Meaning, byKind, byBytes, meaningOf}
@@ -96,3 +99,22 @@ bytes-fit (some l) = kind-fits l
 pub line-fits : (text bytes : List ℕ) → ContentFits (lineAnswer text bytes)
 unfolding lineAnswer meaningOf LineFits
 line-fits text bytes = either ContentFits (leb captureBytes (length bytes)) (λ _. bytes-fit (bytesOf text)) (λ _. unfold ContentFits in tt)
+
+-- ---- which spans a state has
+
+presence-small : (ts : List Bool) → presence ts < 2 ^ length ts
+unfolding presence
+presence-small [] = lit< tt
+presence-small (t ∷ ts) =
+    let e : 2 ^ suc (length ts) ≡ 2 ^ length ts * 2 = pow-suc 2 (length ts) in
+    omega (arith, presence-small ts, flag-few t)
+  where
+    flag-few : (u : Bool) → cond u 1 0 < 2
+    flag-few true = lit< tt
+    flag-few false = lit< tt
+
+pub to-fits : (b : List ℕ) (l : Lent) → Fits (toAnswer b l)
+unfolding toAnswer Fits
+to-fits b l =
+    refusing-fits b _
+    (λ _. either Fits (roomy l) (λ _. lt-of-lt-of-le (presence-small _) (lit≤ tt)) (λ _. tt))

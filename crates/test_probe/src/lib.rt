@@ -8,4 +8,5 @@ mod logs;
 mod packets;
 mod playing;
 mod rounds;
+mod states;
 mod views;
