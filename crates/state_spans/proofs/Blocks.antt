@@ -1,7 +1,7 @@
 -- The block that a state gives is its parts, each of its size, and what the parts written one after the other come to.
 use mathlib.Core.Path.{_≡_, refl, sym, ap, _∙_, subst}
 use mathlib.Core.Bool.{Bool, true, false, _&&_, cond, false≢true}
-use mathlib.Core.List.{List, [], _∷_, _++_, map}
+use mathlib.Core.List.{List, [], _∷_, _++_, map, append-assoc}
 use mathlib.Core.Option.{Option, none, some}
 use Prim.Native.Nat.{ℕ, _+_, _-_, _*_, _≤_, _<_}
 use native.Mathlib.Omega.{arith}
@@ -12,7 +12,7 @@ use Rattle.bits.specs.Over.{part, over}
 use Rattle.bits.proofs.Tests.{and-left, and-right}
 use Rattle.layout.specs.Block.{isSet, isHeld, flat}
 use Rattle.layout.proofs.Cut.{cut, flat-cut, sizes-cut, get-part, put-part, put-sized, length-flat}
-use Rattle.parts.specs.Parts.{blockBytes, receivedAt, presetOnAt, headerBytes, packetBytes, storeBytes, presetBytes, palettesAt, palettesBytes, mapAt, mapBytes, systemAt, systemBytes, filesAt, filesBytes, liveAt, captureBytes, frozenAt, tilesAt, tilesBytes, borderMapAt, borderMapBytes, borderPalettesAt, borderPalettesBytes, sum}
+use Rattle.parts.specs.Parts.{blockBytes, receivedAt, presetOnAt, headerBytes, packetBytes, storeBytes, presetBytes, palettesAt, palettesBytes, mapAt, mapBytes, systemAt, systemBytes, filesAt, filesBytes, liveAt, captureBytes, frozenAt, tilesAt, tilesBytes, borderMapAt, borderMapBytes, borderPalettesAt, borderPalettesBytes, sizes, sum}
 use Rattle.state_cells.specs.Cells.{packCells}
 use Rattle.state_cells.proofs.Celling.{length-packCells}
 use Rattle.state_spans.specs.State.{State, isThere, bytesIn}
@@ -60,6 +60,10 @@ parts-written b f x m s a l z t u v eb ef ex em es ea el ez et eu ev =
     let c7 = cutting-put c6 7 (lit< tt) t et in
     let c8 = cutting-put c7 8 (lit< tt) u eu in
     cutting-put c8 9 (lit< tt) v ev .eq
+
+pub flat-nested : (ps qs : List (List ℕ)) → flat (flat ps ∷ qs) ≡ flat (ps ++ qs)
+flat-nested [] qs = refl
+flat-nested (p ∷ ps) qs = append-assoc p (flat ps) (flat qs) ∙ ap (λ (l : List ℕ). p ++ l) (flat-nested ps qs)
 
 -- ---- the sizes of a state's parts
 
@@ -159,3 +163,28 @@ module _ (s : State) (h : fits s ≡ true) where
 
   pub block-part : (k : ℕ) → k < 10 → part (sum (take k comingSizes)) (getD comingSizes k 0) (blockFrom s) ≡ getD (partsFrom s) k []
   block-part k lt = unfold blockFrom in get-part comingSizes (partsFrom s) parts-sized k lt
+
+  -- the same with the front in its four parts, as the block is laid out
+  abbrev thirteen : List (List ℕ)
+  thirteen =
+      headerFrom (s .fields) (isHeld (s .frozenCapture)) ∷ bytesIn (s .packet) ∷ storeFrom (s .packets) ∷ presetFrom (getD (s .fields) presetOnAt 0) (s .preset)
+      ∷ drop 1 (partsFrom s)
+
+  thirteen-is : blockFrom s ≡ flat thirteen
+  thirteen-is =
+      unfold blockFrom frontFrom in
+      flat-nested
+      (headerFrom (s .fields) (isHeld (s .frozenCapture)) ∷ bytesIn (s .packet) ∷ storeFrom (s .packets) ∷ presetFrom (getD (s .fields) presetOnAt 0) (s .preset) ∷ [])
+      (drop 1 (partsFrom s))
+
+  thirteen-sized : map length thirteen ≡ sizes
+  unfolding storeFrom presetFrom
+  thirteen-sized =
+      let f = front-of in
+      let few : length (bytesIn (s .packets)) ≤ storeBytes = omega (arith, f .packets, f .received) in
+      λ t.
+      headerBytes ∷ f .packet t ∷ store-long (bytesIn (s .packets)) few t ∷ length-preset (isSet (getD (s .fields) presetOnAt 0)) (s .preset) (f .preset) t
+      ∷ drop 1 (parts-sized t)
+
+  pub thirteen-part : (k : ℕ) → k < 13 → part (sum (take k sizes)) (getD sizes k 0) (blockFrom s) ≡ getD thirteen k []
+  thirteen-part k lt = ap (part (sum (take k sizes)) (getD sizes k 0)) thirteen-is ∙ get-part sizes thirteen thirteen-sized k lt

@@ -20,9 +20,12 @@ use Rattle.state_spans.proofs.Spans.{lentIf, has-there, has-long, has-b
 pub record Front (f x y z : List ℕ) (p q r : Bool) : Type 0 where
   pub fields : length f ≡ fieldBytes
   pub packet : length x ≡ packetBytes
+  pub packet-there : p ≡ true
   pub received : getD f receivedAt 0 ≤ 7
   pub packets : length y ≡ 16 * getD f receivedAt 0
+  pub packets-there : q ≡ true
   pub preset : isSet (getD f presetOnAt 0) ≡ true → length z ≡ presetBytes
+  pub preset-there : isSet (getD f presetOnAt 0) ≡ true → r ≡ true
   pub taken : (on : ℕ) → frontFrom f on (lentIf p x) (lentIf q y) (lentIf r z) ≡ frontFrom f on (some x) (some y) (some z)
 
 pub front-fitted : (f x y z : List ℕ) (p q r : Bool) → frontFits f (lentIf p x) (lentIf q y) (lentIf r z) ≡ true → Front f x y z p q r
@@ -37,9 +40,12 @@ front-fitted f x y z p q r h =
     record {
       fields = eqb-true (length f) fieldBytes (and-left (eqb (length f) fieldBytes) _ h);
       packet = has-long packetBytes p x hasPacket;
+      packet-there = has-there packetBytes p x hasPacket;
       received = leb-true (getD f receivedAt 0) 7 (and-left (leb (getD f receivedAt 0) 7) _ fit);
       packets = has-long (16 * getD f receivedAt 0) q y hasPackets;
+      packets-there = has-there (16 * getD f receivedAt 0) q y hasPackets;
       preset = preset-long (isSet (getD f presetOnAt 0)) pre;
+      preset-there = preset-is (isSet (getD f presetOnAt 0)) pre;
       taken =
           λ on t.
           flat
@@ -52,6 +58,10 @@ front-fitted f x y z p q r h =
     preset-taken true u g = has-bytes presetBytes u z g ∙ sym (some-bytes z)
     preset-taken false u g = refl
 
+    preset-is : (t : Bool) → cond t (has presetBytes (lentIf r z)) true ≡ true → t ≡ true → r ≡ true
+    preset-is true g e = has-there presetBytes r z g
+    preset-is false g e = absurd (false≢true e)
+
     preset-long : (t : Bool) → cond t (has presetBytes (lentIf r z)) true ≡ true → t ≡ true → length z ≡ presetBytes
     preset-long true g e = has-long presetBytes r z g
     preset-long false g e = absurd (false≢true e)
@@ -63,6 +73,10 @@ pub record Tables (x y z w : List ℕ) (p q r s : Bool) : Type 0 where
   pub attributeMap : length y ≡ mapCells
   pub systemPalettes : length z ≡ systemBytes
   pub attributeFiles : length w ≡ filesCells
+  pub palettes-there : p ≡ true
+  pub attributeMap-there : q ≡ true
+  pub systemPalettes-there : r ≡ true
+  pub attributeFiles-there : s ≡ true
   pub palettes-in : bytesIn (lentIf p x) ≡ x
   pub attributeMap-in : bytesIn (lentIf q y) ≡ y
   pub systemPalettes-in : bytesIn (lentIf r z) ≡ z
@@ -82,6 +96,10 @@ tables-fitted x y z w p q r s h =
       attributeMap = has-long mapCells q y b;
       systemPalettes = has-long systemBytes r z c;
       attributeFiles = has-long filesCells s w d;
+      palettes-there = has-there palettesBytes p x a;
+      attributeMap-there = has-there mapCells q y b;
+      systemPalettes-there = has-there systemBytes r z c;
+      attributeFiles-there = has-there filesCells s w d;
       palettes-in = has-bytes palettesBytes p x a;
       attributeMap-in = has-bytes mapCells q y b;
       systemPalettes-in = has-bytes systemBytes r z c;
@@ -92,6 +110,7 @@ tables-fitted x y z w p q r s h =
 
 pub record Captures (x y : List ℕ) (p q : Bool) : Type 0 where
   pub capture : length x ≡ capturePixels
+  pub capture-there : p ≡ true
   pub capture-in : bytesIn (lentIf p x) ≡ x
   pub frozenCapture : q ≡ true → length y ≡ capturePixels
 
@@ -100,6 +119,7 @@ unfolding capturesFit
 captures-fitted x y p q h =
     record {
       capture = has-long capturePixels p x (and-left (has capturePixels (lentIf p x)) _ h);
+      capture-there = has-there capturePixels p x (and-left (has capturePixels (lentIf p x)) _ h);
       capture-in = has-bytes capturePixels p x (and-left (has capturePixels (lentIf p x)) _ h);
       frozenCapture = frozen q (and-right (has capturePixels (lentIf p x)) _ h);
     }
