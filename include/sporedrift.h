@@ -29,9 +29,9 @@ extern "C" {
 /* ---- the version of this header; sporedrift_version tells that of the library which is linked */
 
 #define SPOREDRIFT_VERSION_MAJOR 0
-#define SPOREDRIFT_VERSION_MINOR 2
+#define SPOREDRIFT_VERSION_MINOR 3
 #define SPOREDRIFT_VERSION_PATCH 0
-#define SPOREDRIFT_VERSION "0.2.0"
+#define SPOREDRIFT_VERSION "0.3.0"
 #define SPOREDRIFT_VERSION_NUMBER (SPOREDRIFT_VERSION_MAJOR * 65536 + SPOREDRIFT_VERSION_MINOR * 256 + SPOREDRIFT_VERSION_PATCH)
 
 /* The value is the library's version, made as SPOREDRIFT_VERSION_NUMBER is. Refuses nothing. */
@@ -48,6 +48,8 @@ enum sporedrift_refused { /* docs/RULES.md, 2.1 */
     SPOREDRIFT_REFUSED_COMMAND = 5, /* no command: not 16 bytes for each packet that its first byte counts */
     SPOREDRIFT_REFUSED_OUTPUT = 6,  /* the output lent has no room for the call's longest result (docs/RULES.md, 2.6) */
     SPOREDRIFT_REFUSED_LINE = 7,    /* the text is no line of a log (docs/RULES.md, 8.2) */
+    SPOREDRIFT_REFUSED_SPAN = 8,    /* a span of the state is missing, or has not the bytes that it must have (docs/RULES.md, 11.3) */
+    SPOREDRIFT_REFUSED_CELL = 9,    /* a cell of the state's attribute map, or of one of its attribute files, is over 3 */
 
     /* The block is not valid: the first rule that it breaks, with an offset. new and post_boot make a valid block, calls keep it so. */
     SPOREDRIFT_REFUSED_V1 = 21, /* mask mode, joypad index, joypad mask (docs/RULES.md, 1.6) */
@@ -82,6 +84,8 @@ static inline const char *sporedrift_refusal_text(uint32_t answer) {
     case SPOREDRIFT_REFUSED_COMMAND: return "the command is empty, or is not as long as its first byte tells";
     case SPOREDRIFT_REFUSED_OUTPUT: return "the output is short";
     case SPOREDRIFT_REFUSED_LINE: return "the text is no line of a log";
+    case SPOREDRIFT_REFUSED_SPAN: return "a span of the state is missing, or is not as long as it must be";
+    case SPOREDRIFT_REFUSED_CELL: return "a cell of the state's attribute map or files is over 3";
     case SPOREDRIFT_REFUSED_V1: return "rule V1 is broken: mask mode, joypad index, joypad mask";
     case SPOREDRIFT_REFUSED_V2: return "rule V2 is broken: P15 high, both high, preset in force, frozen present, unused bytes";
     case SPOREDRIFT_REFUSED_V3: return "rule V3 is broken: receiver, expected, received, bit index, current packet, packet store";
@@ -198,6 +202,163 @@ uint32_t sporedrift_post_boot(uint8_t *block, size_t block_len);
 
 /* Whether a saved block can be taken up. Refusals 1, 21 to 26; else 0. */
 uint32_t sporedrift_check(const uint8_t *block, size_t block_len);
+
+/* ---- states of the emulator: the Super Game Boy's part of what missingno saves, as its sgb/state.rs lays it out (docs/RULES.md, 11).
+ * Names and order are that file's, the names without their sgb_. A block that goes out and comes in again is the same block. */
+
+/* A part of the state that is bytes. Missing is not empty: a span may be there with no bytes. */
+struct sporedrift_span {
+    uint8_t *at;
+    size_t len;
+    int present; /* 0 where the state does not have it */
+};
+
+/* The fields of the emulator's record, a number each, and the spans of its memory. p15_high, lines_high and preset_in_force are truth
+ * values in the record, and 1 or 0 here.
+ *
+ * THE TRAP: where no transfer is pending, the record has neither countdown nor kind, and here both are 0. A countdown that is in the
+ * record and 0 is another thing to the emulator: a transfer, which lands at the next screen, over palettes, attribute files or border.
+ * So, going out: where transfer_countdown is 0, leave BOTH fields out of the record. Coming in: where it lacks them, make both 0. */
+struct sporedrift_state {
+    uint8_t mask; /* enum sporedrift_mask */
+    uint8_t joypad_index;
+    uint8_t joypad_mask;
+    uint8_t p15_high;
+    uint8_t lines_high;
+    uint8_t receiver; /* enum sporedrift_receiver */
+    uint8_t packets_expected;
+    uint8_t packets_received;
+    uint8_t bit_index;
+    uint8_t preset_in_force;
+    uint8_t transfer_countdown; /* where this is 0, neither it nor the kind is in the record */
+    uint8_t transfer_kind;      /* enum sporedrift_transfer */
+
+    struct sporedrift_span palettes;      /* colours are words, the low byte first, and so is the border's map */
+    struct sporedrift_span attribute_map; /* a byte a cell, 0 to 3 */
+    struct sporedrift_span system_palettes;
+    struct sporedrift_span attribute_files; /* 45 such maps */
+    struct sporedrift_span packet;          /* the one that is coming in */
+    struct sporedrift_span packets;         /* those that are in: 16 * packets_received bytes */
+    struct sporedrift_span capture;         /* a byte a pixel, its shade */
+    struct sporedrift_span frozen_capture;  /* may be missing */
+    struct sporedrift_span preset;          /* may be missing where preset_in_force is 0 */
+    struct sporedrift_span border_tiles;    /* where one of these three is missing, the border is empty */
+    struct sporedrift_span border_map;
+    struct sporedrift_span border_palettes;
+};
+
+#define SPOREDRIFT_STATE_FIELDS 12u
+#define SPOREDRIFT_STATE_SPANS 12u
+
+/* The bytes of each span; of the packets the most that there can be. */
+#define SPOREDRIFT_STATE_PALETTES 32u
+#define SPOREDRIFT_STATE_ATTRIBUTE_MAP 360u
+#define SPOREDRIFT_STATE_SYSTEM_PALETTES 4096u
+#define SPOREDRIFT_STATE_ATTRIBUTE_FILES 16200u
+#define SPOREDRIFT_STATE_PACKET 16u
+#define SPOREDRIFT_STATE_PACKETS 112u
+#define SPOREDRIFT_STATE_CAPTURE 23040u
+#define SPOREDRIFT_STATE_FROZEN_CAPTURE 23040u
+#define SPOREDRIFT_STATE_PRESET 8u
+#define SPOREDRIFT_STATE_BORDER_TILES 8192u
+#define SPOREDRIFT_STATE_BORDER_MAP 1792u
+#define SPOREDRIFT_STATE_BORDER_PALETTES 96u
+
+/* Both ways over numbers and slices, which are the library's: the fields as twelve bytes, the spans as twelve slices, in the struct's
+ * order. Bit k of `present` tells whether span k is there, from bit 0 for the palettes on; bits 12 to 15 mean nothing. Fields that are
+ * not twelve bytes are 8 coming in; fewer than twelve are 6 going out. The value of sporedrift_to_spans is `present`.
+ * What they do is told below, where the same is done with the struct: that is code of this header alone, tested and not proved. */
+uint32_t sporedrift_from_spans(uint8_t *block, size_t block_len, const uint8_t *fields, size_t fields_len, uint16_t present,
+                               const uint8_t *palettes, size_t palettes_len, const uint8_t *attribute_map, size_t attribute_map_len,
+                               const uint8_t *system_palettes, size_t system_palettes_len, const uint8_t *attribute_files,
+                               size_t attribute_files_len, const uint8_t *packet, size_t packet_len, const uint8_t *packets,
+                               size_t packets_len, const uint8_t *capture, size_t capture_len, const uint8_t *frozen_capture,
+                               size_t frozen_capture_len, const uint8_t *preset, size_t preset_len, const uint8_t *border_tiles,
+                               size_t border_tiles_len, const uint8_t *border_map, size_t border_map_len,
+                               const uint8_t *border_palettes, size_t border_palettes_len);
+uint32_t sporedrift_to_spans(const uint8_t *block, size_t block_len, uint8_t *fields, size_t fields_len, uint8_t *palettes,
+                             size_t palettes_len, uint8_t *attribute_map, size_t attribute_map_len, uint8_t *system_palettes,
+                             size_t system_palettes_len, uint8_t *attribute_files, size_t attribute_files_len, uint8_t *packet,
+                             size_t packet_len, uint8_t *packets, size_t packets_len, uint8_t *capture, size_t capture_len,
+                             uint8_t *frozen_capture, size_t frozen_capture_len, uint8_t *preset, size_t preset_len,
+                             uint8_t *border_tiles, size_t border_tiles_len, uint8_t *border_map, size_t border_map_len,
+                             uint8_t *border_palettes, size_t border_palettes_len);
+
+/* A state into a block, over whatever the block held. Refusals 1, 8, 9, 21 to 26; else 0.
+ * - 8 is for a span that is missing and for one that is not of its length, but: the frozen capture may be missing; the preset is looked
+ *   at only where preset_in_force is 1; and where one of the border's three is missing, the other two are not looked at. No length of
+ *   packets is right where packets_received is over 7.
+ * - 21 to 26 and their offsets are of the block that the state would become: the emulator takes states that no valid block can hold.
+ * - Of a shade the low two bits are taken. Beside a countdown of 0 a kind of 0 to 4 means nothing.
+ * - Nothing is written through the spans' pointers. One whose span is missing or has no bytes is not looked at, and may be NULL. */
+static inline uint32_t sporedrift_from_state(uint8_t *block, size_t block_len, const struct sporedrift_state *state) {
+    const struct sporedrift_state *s = state;
+    const uint8_t fields[SPOREDRIFT_STATE_FIELDS] = {
+        s->mask,             s->joypad_index,     s->joypad_mask, s->p15_high,        s->lines_high,         s->receiver,
+        s->packets_expected, s->packets_received, s->bit_index,   s->preset_in_force, s->transfer_countdown, s->transfer_kind};
+    const struct sporedrift_span *const spans[SPOREDRIFT_STATE_SPANS] = {
+        &s->palettes, &s->attribute_map,  &s->system_palettes, &s->attribute_files, &s->packet,     &s->packets,
+        &s->capture,  &s->frozen_capture, &s->preset,          &s->border_tiles,    &s->border_map, &s->border_palettes};
+    static const uint16_t bits[SPOREDRIFT_STATE_SPANS] = {1, 2, 4, 8, 16, 32, 64, 128, 256, 512, 1024, 2048};
+    const uint8_t *at[SPOREDRIFT_STATE_SPANS];
+    size_t len[SPOREDRIFT_STATE_SPANS];
+    uint16_t present = 0;
+    unsigned k;
+
+    for (k = 0; k < SPOREDRIFT_STATE_SPANS; k++) {
+        len[k] = spans[k]->present != 0 ? spans[k]->len : 0;
+        at[k] = len[k] != 0 ? spans[k]->at : fields;
+        if (spans[k]->present != 0) present = present | bits[k];
+    }
+    return sporedrift_from_spans(block, block_len, fields, sizeof fields, present, at[0], len[0], at[1], len[1], at[2], len[2], at[3],
+                                 len[3], at[4], len[4], at[5], len[5], at[6], len[6], at[7], len[7], at[8], len[8], at[9], len[9],
+                                 at[10], len[10], at[11], len[11]);
+}
+
+/* A block as a state. The caller lends all twelve spans, whatever their `present`: `len` bytes at `at`, room for the span's greatest
+ * length. Refusals 1, 21 to 26, 6 (a span without that room), which change nothing of the struct; else 0. Then the fields are set, and
+ * of each span `len` and `present`; the pointers stay.
+ * - A span stands at the front of what was lent, and what is longer keeps its tail. There are 16 * packets_received bytes of packets.
+ * - The frozen capture may be missing, and so may the preset: `present` and `len` are 0, and every byte that was lent is kept.
+ * - Before the next such call each `len` has to tell the room again. */
+static inline uint32_t sporedrift_to_state(const uint8_t *block, size_t block_len, struct sporedrift_state *state) {
+    struct sporedrift_state *s = state;
+    struct sporedrift_span *const spans[SPOREDRIFT_STATE_SPANS] = {
+        &s->palettes, &s->attribute_map,  &s->system_palettes, &s->attribute_files, &s->packet,     &s->packets,
+        &s->capture,  &s->frozen_capture, &s->preset,          &s->border_tiles,    &s->border_map, &s->border_palettes};
+    size_t len[SPOREDRIFT_STATE_SPANS] = {
+        SPOREDRIFT_STATE_PALETTES, SPOREDRIFT_STATE_ATTRIBUTE_MAP, SPOREDRIFT_STATE_SYSTEM_PALETTES, SPOREDRIFT_STATE_ATTRIBUTE_FILES,
+        SPOREDRIFT_STATE_PACKET,   SPOREDRIFT_STATE_PACKETS,       SPOREDRIFT_STATE_CAPTURE,         SPOREDRIFT_STATE_FROZEN_CAPTURE,
+        SPOREDRIFT_STATE_PRESET,   SPOREDRIFT_STATE_BORDER_TILES,  SPOREDRIFT_STATE_BORDER_MAP,      SPOREDRIFT_STATE_BORDER_PALETTES};
+    uint8_t fields[SPOREDRIFT_STATE_FIELDS], none[1], *at[SPOREDRIFT_STATE_SPANS];
+    uint32_t answer, present;
+    unsigned k;
+
+    for (k = 0; k < SPOREDRIFT_STATE_SPANS; k++) at[k] = spans[k]->len != 0 ? spans[k]->at : none;
+    answer = sporedrift_to_spans(block, block_len, fields, sizeof fields, at[0], s->palettes.len, at[1], s->attribute_map.len, at[2],
+                                 s->system_palettes.len, at[3], s->attribute_files.len, at[4], s->packet.len, at[5], s->packets.len,
+                                 at[6], s->capture.len, at[7], s->frozen_capture.len, at[8], s->preset.len, at[9], s->border_tiles.len,
+                                 at[10], s->border_map.len, at[11], s->border_palettes.len);
+    if (sporedrift_refusal(answer) != 0) return answer;
+    s->mask = fields[0];
+    s->joypad_index = fields[1];
+    s->joypad_mask = fields[2];
+    s->p15_high = fields[3];
+    s->lines_high = fields[4];
+    s->receiver = fields[5];
+    s->packets_expected = fields[6];
+    s->packets_received = fields[7];
+    s->bit_index = fields[8];
+    s->preset_in_force = fields[9];
+    s->transfer_countdown = fields[10];
+    s->transfer_kind = fields[11];
+    len[5] = SPOREDRIFT_PACKET * s->packets_received;
+    for (k = 0, present = sporedrift_value(answer); k < SPOREDRIFT_STATE_SPANS; k++, present >>= 1) {
+        spans[k]->present = (present & 1u) != 0;
+        spans[k]->len = (present & 1u) != 0 ? len[k] : 0;
+    }
+    return 0;
+}
 
 /* ---- what the game does */
 

@@ -175,9 +175,44 @@ static uint8_t block[SPOREDRIFT_BLOCK], kept[SPOREDRIFT_BLOCK];
 static uint8_t command[SPOREDRIFT_COMMAND], screen[SPOREDRIFT_SCREEN];
 static uint16_t words[SPOREDRIFT_PICTURE];
 
+static uint8_t spans[76984]; /* as many as all spans of a state have at the most */
+
 static const char *const names[] = {"check",    "write_joypad", "play",            "update_screen", "mask_mode", "backdrop",
-                                    "color_at", "map_entry",    "border_color_at", "row",           "picture"};
+                                    "color_at", "map_entry",    "border_color_at", "row",           "picture",   "to_state"};
 #define CALLS (sizeof names / sizeof names[0])
+
+/* Room for a span, at a place from which it moves on; where `spoilt` there is none. */
+static struct sporedrift_span lent(uint8_t **at, size_t len, int spoilt) {
+    struct sporedrift_span span;
+    span.at = *at;
+    span.len = spoilt ? 0 : len;
+    span.present = 0;
+    *at += len;
+    return span;
+}
+
+static uint32_t to_state(int spoilt) {
+    struct sporedrift_state state;
+    uint8_t *at = spans;
+    uint32_t answer;
+
+    memset(&state, 0, sizeof state);
+    state.palettes = lent(&at, SPOREDRIFT_STATE_PALETTES, spoilt);
+    state.attribute_map = lent(&at, SPOREDRIFT_STATE_ATTRIBUTE_MAP, spoilt);
+    state.system_palettes = lent(&at, SPOREDRIFT_STATE_SYSTEM_PALETTES, spoilt);
+    state.attribute_files = lent(&at, SPOREDRIFT_STATE_ATTRIBUTE_FILES, spoilt);
+    state.packet = lent(&at, SPOREDRIFT_STATE_PACKET, spoilt);
+    state.packets = lent(&at, SPOREDRIFT_STATE_PACKETS, spoilt);
+    state.capture = lent(&at, SPOREDRIFT_STATE_CAPTURE, spoilt);
+    state.frozen_capture = lent(&at, SPOREDRIFT_STATE_FROZEN_CAPTURE, spoilt);
+    state.preset = lent(&at, SPOREDRIFT_STATE_PRESET, spoilt);
+    state.border_tiles = lent(&at, SPOREDRIFT_STATE_BORDER_TILES, spoilt);
+    state.border_map = lent(&at, SPOREDRIFT_STATE_BORDER_MAP, spoilt);
+    state.border_palettes = lent(&at, SPOREDRIFT_STATE_BORDER_PALETTES, spoilt);
+    answer = sporedrift_to_state(block, sizeof block, &state);
+    number("the fields are as they were", state.mask + state.p15_high + state.preset_in_force, 0);
+    return answer;
+}
 
 static uint32_t call(size_t which, int spoilt) {
     static const uint8_t writes[4] = {0x00, 0x30, 0x20, 0x30};
@@ -194,7 +229,8 @@ static uint32_t call(size_t which, int spoilt) {
     case 7: return sporedrift_map_entry(block, sizeof block, place, place);
     case 8: return sporedrift_border_color_at(block, sizeof block, place, place);
     case 9: return sporedrift_row(block, sizeof block, place, words, spoilt ? 0 : SPOREDRIFT_WIDTH);
-    default: return sporedrift_picture(block, sizeof block, words, spoilt ? 0 : SPOREDRIFT_PICTURE);
+    case 10: return sporedrift_picture(block, sizeof block, words, spoilt ? 0 : SPOREDRIFT_PICTURE);
+    default: return to_state(spoilt);
     }
 }
 
@@ -212,6 +248,7 @@ static void every_call(uint32_t answer) {
     memset(command, 0x5A, sizeof command);
     memset(screen, 0xE4, sizeof screen);
     memset(words, 0xA5, sizeof words);
+    memset(spans, 0x3C, sizeof spans);
     for (which = 0; which < CALLS; which++)
         for (spoilt = 0; spoilt < 2; spoilt++) {
             number(names[which], call(which, spoilt), answer);
@@ -219,6 +256,7 @@ static void every_call(uint32_t answer) {
             number("the command is", all(command, sizeof command, 0x5A), 1);
             number("the screen is", all(screen, sizeof screen, 0xE4), 1);
             number("the words are", all(words, sizeof words, 0xA5), 1);
+            number("the spans are", all(spans, sizeof spans, 0x3C), 1);
             memcpy(block, kept, sizeof block);
         }
 }

@@ -13,6 +13,8 @@ block that breaks a rule it also tells the byte:
     >>> sporedrift.Unit.load(saved)
     sporedrift.Refusal: rule V3 is broken at byte 8 (0x8), the bit index (refusal 23)
 
+A unit that the emulator missingno saved is a `State`: `Unit.from_state` takes it up, `Unit.to_state` makes one.
+
 The calls themselves are in the shared object libsporedrift.so, which is reached by `ctypes`. It is looked for where SPOREDRIFT_LIB says (a
 folder or the file); else in the repository that this module stands in; else in `lib` of the prefix that it is installed in; else where the
 system looks for libraries.
@@ -22,9 +24,10 @@ from ._calls import Refusal, library_version
 from ._fields import field_text
 from ._log import Line, LineKind, parse_line, plate
 from ._picture import HEIGHT, WIDTH, BorderMapEntry, Picture, Rgb555
+from ._state import STATE_SPANS, State
 from ._unit import BLOCK, COMMAND, PACKET, PACKET_WRITES, SCREEN, MaskMode, Played, Transfer, Unit, encode, verdict
 
-__version__ = "0.2.0"
+__version__ = "0.3.0"
 
 __all__ = [
     "BLOCK",
@@ -33,6 +36,7 @@ __all__ = [
     "PACKET",
     "PACKET_WRITES",
     "SCREEN",
+    "STATE_SPANS",
     "WIDTH",
     "BorderMapEntry",
     "Line",
@@ -42,6 +46,7 @@ __all__ = [
     "Played",
     "Refusal",
     "Rgb555",
+    "State",
     "Transfer",
     "Unit",
     "encode",

@@ -12,7 +12,7 @@ from typing import Any, Iterator, List, Optional, Union
 from ._fields import field_text
 
 # The library that this module is written for: its first two numbers have to be these.
-MAJOR, MINOR = 0, 2
+MAJOR, MINOR = 0, 3
 
 NAMES = (f"libsporedrift.so.{MAJOR}.{MINOR}", "libsporedrift.so")
 WHAT_TO_DO = (
@@ -28,7 +28,8 @@ class Refusal(ValueError):
     """A call refused what it was given, and nothing has changed.
 
     `number` is the refusal's number: 1 the block's length, 3 the screen, 4 a place or a shade, 5 the command, 6 the output, 7 a line of a
-    log; 21 to 26 the first of the rules V1 to V6 that the block breaks.
+    log, 8 a span of a state, 9 a cell of a state; 21 to 26 the first of the rules V1 to V6 that the block breaks, or the block that a state
+    would become.
     `offset` is the lowest byte of the block that breaks that rule, and None for every other refusal; `field_text` names what stands there.
     `line` is the number of the refused line, from 1, where a whole log was given.
     """
@@ -40,6 +41,8 @@ class Refusal(ValueError):
         5: "the command is empty, or is not as long as its first byte tells",
         6: "the output is short",
         7: "the text is no line of a log",
+        8: "a span of the state is missing, or is not as long as it must be",
+        9: "a cell of the state's attribute map or files is over 3",
         **{20 + rule: f"rule V{rule} is broken" for rule in range(1, 7)},
     }
 
@@ -136,6 +139,8 @@ _version = call("version")
 new = call("new", *_BLOCK)
 post_boot = call("post_boot", *_BLOCK)
 check = call("check", *_BLOCK)
+from_spans = call("from_spans", *_BLOCK, _BYTES, _SIZE, ctypes.c_uint16, *(_BYTES, _SIZE) * 12)
+to_spans = call("to_spans", *_BLOCK, _BYTES, _SIZE, *(_BYTES, _SIZE) * 12)
 write_joypad = call("write_joypad", *_BLOCK, _BYTE, _BYTES, _SIZE)
 play = call("play", *_BLOCK, _BYTES, _SIZE, _BYTES, _SIZE)
 update_screen = call("update_screen", *_BLOCK, _BYTES, _SIZE)

@@ -8,9 +8,10 @@ import enum
 import operator
 from typing import Any, List, NamedTuple, Optional, Tuple
 
-from . import _calls
+from . import _calls, _state
 from ._calls import BytesLike, octets, optional, place, value
 from ._picture import HEIGHT, WIDTH, BorderMapEntry, Picture, Rgb555
+from ._state import State
 
 BLOCK = 30_020
 """The bytes of a unit's block, which is also its saved form."""
@@ -91,6 +92,23 @@ class Unit:
         unit = cls()
         unit._block[:] = block
         return unit
+
+    @classmethod
+    def from_state(cls, state: State) -> "Unit":
+        """A unit that the emulator saved. Refusal 8 if a span is missing or not as long as it must be, 9 if a cell of the attribute map or
+        of an attribute file is over 3; 21 to 26, with the offset, of the block that it would become: the emulator takes states that no
+        valid block can hold.
+
+        Of a shade the low two bits are taken; beside a countdown of 0 a kind of 0 to 4 means nothing; a preset that is not in force is
+        not looked at; and where one of the border's three spans is missing, the border is empty and the other two are not looked at.
+        """
+        unit = cls()
+        _state.put(state, unit._block)
+        return unit
+
+    def to_state(self) -> State:
+        """The unit as a state of the emulator. `Unit.from_state` makes the same unit of it."""
+        return _state.taken(self._block)
 
     @property
     def block(self) -> bytes:

@@ -1,10 +1,12 @@
-"""The module: the sample's plate, the refusals, writes in a row against writes one by one, lines, pictures, and how the library is found.
+"""The module: the sample's plate, the refusals, states of the emulator, writes in a row against writes one by one, lines, pictures, and how
+the library is found.
 
     python3 -m unittest discover -s bindings/python/tests
 """
 
 import copy
 import ctypes.util
+import dataclasses
 import importlib
 import io
 import os
@@ -20,11 +22,13 @@ import zlib
 HERE = os.path.dirname(os.path.abspath(__file__))
 PACKAGE = os.path.dirname(HERE)
 SAMPLES = os.path.join(PACKAGE, "..", "..", "samples")
+EXAMPLES = os.path.join(PACKAGE, "..", "..", "examples")
 sys.dont_write_bytecode = True
 sys.path.insert(0, PACKAGE)
 
 import sporedrift
-from sporedrift import BorderMapEntry, LineKind, MaskMode, Refusal, Rgb555, Transfer, Unit, encode, field_text, parse_line, plate, verdict
+from sporedrift import STATE_SPANS, BorderMapEntry, LineKind, MaskMode, Refusal, Rgb555, State, Transfer, Unit
+from sporedrift import encode, field_text, parse_line, plate, verdict
 
 try:
     import PIL
@@ -213,7 +217,7 @@ class Refusals(Case):
         self.assertEqual(plate(b""), Unit.post_boot().picture())
 
     def test_words(self):
-        for number in (1, 3, 4, 5, 6, 7, *range(21, 27)):
+        for number in (1, 3, 4, 5, 6, 7, 8, 9, *range(21, 27)):
             said = str(Refusal(number))
             self.assertTrue(said.endswith(f" (refusal {number})"), said)
             self.assertNotIn("the library refuses", said)
@@ -297,6 +301,220 @@ class Rules(Case):
         self.assertEqual(starts, [*range(1, 14), 16, 32, 144, 152, 184, 274, 4370, 8420, 14180, 19940, 28132, 29924])
         for at in (-1, sporedrift.BLOCK, 1 << 64):
             self.assertIsNone(field_text(at))
+
+
+class States(Case):
+    """States of the emulator."""
+
+    def units(self):
+        """Units of all sorts, by their names."""
+        yield "new", Unit.new()
+        yield "post_boot", Unit.post_boot()
+        unit = Unit.post_boot()
+        unit.play_all(encode(packet(0x01, *range(14))) + encode(packet(0x21, 0x01, 0x07, 0x1B, 3, 2, 13, 9)) + encode(packet(0x89, 0x03)))
+        for code in (0x59, 0xA9, 0x99, 0xA1):
+            unit.play_all(encode(packet(code)))
+            for shades in (0x1B, 0x2C, code):
+                unit.update_screen(bytes([shades]) * sporedrift.SCREEN)
+        yield "every table filled", unit.copy()
+        unit.play_all(encode(packet(0xB9, 0x01)))
+        unit.update_screen(b"\xE4" * sporedrift.SCREEN)
+        yield "frozen", unit.copy()
+        unit.play_all(encode(packet(0x99, 0x01)))
+        unit.update_screen(b"\x4E" * sporedrift.SCREEN)
+        yield "a transfer pending", unit.copy()
+        seven = encode(b"\x27" + b"\xFF" * 111)
+        unit.play_all(seven[:100])
+        yield "in a packet", unit.copy()
+        unit.play_all(b"\x00\x30" + seven[: 6 * 260])
+        yield "between two packets", unit.copy()
+        unit.play_all(seven[6 * 260 : 6 * 260 + 200])
+        yield "in the seventh packet", unit
+
+    def frozen(self):
+        unit = dict(self.units())["frozen"]
+        state = unit.to_state()
+        self.assertEqual((state.mask, len(state.frozen_capture)), (1, 23040))
+        return unit, state
+
+    def test_out_and_in_again(self):
+        for name, unit in self.units():
+            with self.subTest(name):
+                state = unit.to_state()
+                again = Unit.from_state(state)
+                self.assertEqual(again, unit)
+                self.assertEqual(again.to_state(), state)
+                self.assertEqual(pickle.loads(pickle.dumps(state)), state)
+                other = copy.copy(state)
+                other.capture, other.packets = bytearray(state.capture), memoryview(state.packets)
+                self.assertEqual(Unit.from_state(other), unit)
+                # and both go on alike
+                for shades in range(4):
+                    self.assertEqual(*(one.update_screen(bytes([shades]) * sporedrift.SCREEN) for one in (unit, again)))
+                    self.assertEqual(*(one.play_all(encode(packet(0x51, shades))) for one in (unit, again)))
+                self.assertEqual(again, unit)
+
+    def test_what_the_block_says(self):
+        starts = [152, 184, 274, 4370, 16, 32, 8420, 14180, 144, 19940, 28132, 29924]
+        for name, unit in self.units():
+            state, block = unit.to_state(), unit.block
+            fields = [state.mask, state.joypad_index, state.joypad_mask, state.p15_high, state.lines_high, state.receiver]
+            fields += [state.packets_expected, state.packets_received, state.bit_index, state.preset_in_force]
+            self.assertEqual(bytes(fields), block[:10])
+            self.assertIsInstance(state.p15_high, bool)
+            self.assertEqual(state.transfer, unit.pending)
+            for start, (span, most) in zip(starts, STATE_SPANS.items()):
+                with self.subTest(name, span=span):
+                    told = state.spans[span]
+                    there = {"frozen_capture": block[12], "preset": block[9]}.get(span, 1)
+                    self.assertEqual(told is not None, there == 1)
+                    if told is None:
+                        continue
+                    due = 16 * block[7] if span == "packets" else most
+                    packed = span in ("attribute_map", "attribute_files", "capture", "frozen_capture")
+                    if packed:
+                        self.assertEqual(bytes(block[start + k // 4] >> 6 - k % 4 * 2 & 3 for k in range(due)), told)
+                    else:
+                        self.assertEqual(block[start : start + due], told)
+
+    def test_no_transfer_is_none(self):
+        unit, screen = Unit.post_boot(), b"\xFF" * sporedrift.SCREEN
+        state = unit.to_state()
+        self.assertIsNone(state.transfer)
+        # a countdown of 0, which the emulator may hold, is none here: nothing lands
+        for kind in range(5):
+            state.transfer = (0, kind)
+            again = Unit.from_state(state)
+            self.assertEqual(again, unit)
+            self.assertIsNone(again.update_screen(screen))
+        for countdown in (1, 2, 3):
+            for kind in Transfer:
+                state.transfer = (countdown, kind)
+                again = Unit.from_state(state)
+                self.assertEqual(again.to_state(), state)
+                told = [again.update_screen(screen) for _ in range(4)]
+                self.assertEqual(told, [None] * (countdown - 1) + [kind] + [None] * (4 - countdown))
+        for transfer, offset in (((0, 5), 11), ((3, 5), 11), ((4, 0), 10), ((255, 255), 10)):
+            state.transfer = transfer
+            self.assertEqual(self.refused(24, Unit.from_state, state).offset, offset)
+
+    def test_every_length_of_every_span(self):
+        for name, unit in self.units():
+            state = unit.to_state()
+            for span, most in STATE_SPANS.items():
+                old = state.spans[span]
+                long = (old or b"") + bytes(most + 1)
+                due = most if old is None else len(old)
+                for what, bytes_ in (("missing", None), ("empty", b""), ("short", long[: max(due - 1, 0)]), ("long", long[: due + 1])):
+                    with self.subTest(name, span=span, what=what):
+                        other = copy.copy(state)
+                        setattr(other, span, bytes_)
+                        if span == "frozen_capture" and bytes_ is None and state.mask == 1:
+                            self.assertEqual(self.refused(26, Unit.from_state, other).offset, 0)
+                        elif span == "frozen_capture" and bytes_ is None:
+                            self.assertEqual(Unit.from_state(other).block[12], 0)
+                        elif span.startswith("border_") and bytes_ is None:
+                            self.assertEqual(Unit.from_state(other).block, unit.block[:19940] + bytes(10080))
+                        elif bytes_ is not None and len(bytes_) == due or span == "preset" and not state.preset_in_force:
+                            self.assertEqual(Unit.from_state(other), unit)
+                        else:
+                            self.refused(8, Unit.from_state, other)
+        self.refused(8, Unit.from_state, State())
+
+    def test_a_preset_without_its_flag_is_not_looked_at(self):
+        unit, state = self.frozen()
+        self.assertFalse(state.preset_in_force)
+        for preset in (b"", b"\x01" * 8, bytes(9)):
+            state.preset = preset
+            self.assertEqual(Unit.from_state(state), unit)
+
+    def test_a_border_without_a_span_is_empty(self):
+        unit, state = self.frozen()
+        for missing in range(1, 8):
+            for rest in (None, b"", bytes(7), b"\x01" * 8192):
+                state.border_tiles, state.border_map, state.border_palettes = (None if missing >> k & 1 else rest for k in range(3))
+                self.assertEqual(Unit.from_state(state).block, unit.block[:19940] + bytes(10080))
+
+    def test_cells_and_shades(self):
+        unit, state = self.frozen()
+        map_, files = "attribute_map", "attribute_files"
+        for span, at, number in ((map_, 0, 4), (map_, 359, 255), (files, 0, 128), (files, 16199, 4)):
+            other = copy.copy(state)
+            cells = bytearray(other.spans[span])
+            cells[at] = number
+            setattr(other, span, cells)
+            self.refused(9, Unit.from_state, other)
+        for span in ("capture", "frozen_capture"):
+            setattr(state, span, bytes(shade | 0xFC for shade in state.spans[span]))
+        self.assertEqual(Unit.from_state(state), unit)
+
+    def test_the_order(self):
+        """8 before 9, and 9 before the rules."""
+        state = self.frozen()[1]
+        state.mask = 4
+        self.assertEqual(self.refused(21, Unit.from_state, state).offset, 0)
+        state.attribute_map = b"\x04" + state.attribute_map[1:]
+        self.refused(9, Unit.from_state, state)
+        for span in STATE_SPANS:
+            if span != "preset":
+                self.refused(8, Unit.from_state, dataclasses.replace(state, **{span: bytes(5)}))
+
+    def test_what_no_block_can_hold(self):
+        capture = bytes(23040)
+        for number, offset, change in (
+            (21, 1, {"joypad_index": 1}),
+            (22, 3, {"p15_high": False}),
+            (22, 3, {"p15_high": 2}),
+            (22, 9, {"preset_in_force": 2, "preset": None}),
+            (23, 8, {"bit_index": 1}),
+            (23, 16, {"packet": b"\x01" + bytes(15)}),
+            (23, 7, {"packets_received": 1, "packets": bytes(16)}),
+            (26, 0, {"mask": 1}),
+            (26, 0, {"mask": 2, "frozen_capture": capture}),
+        ):
+            state = Unit.post_boot().to_state()
+            for name, given in change.items():
+                setattr(state, name, given)
+            self.assertEqual(self.refused(number, Unit.from_state, state).offset, offset)
+        state = Unit.post_boot().to_state()
+        for received in (8, 255):
+            state.packets_received = received
+            for length in (0, 112, 16 * received):
+                state.packets = bytes(length)
+                self.refused(8, Unit.from_state, state)
+
+    def test_what_is_no_byte(self):
+        for name in ("mask", "receiver", "bit_index", "p15_high"):
+            for given, error in ((-1, ValueError), (256, ValueError), (1.0, TypeError), (None, TypeError)):
+                state = Unit.post_boot().to_state()
+                setattr(state, name, given)
+                self.assertRaises(error, Unit.from_state, state)
+        for name, given in (("capture", "0"), ("capture", 23040), ("transfer", 3), ("transfer", (3, None))):
+            state = Unit.post_boot().to_state()
+            setattr(state, name, given)
+            self.assertRaises(TypeError, Unit.from_state, state)
+        state.transfer = (3, 256)
+        self.assertRaises(ValueError, Unit.from_state, state)
+
+    def test_words(self):
+        said = repr(Unit.post_boot().to_state())
+        self.assertTrue(said.startswith("State(mask=0, joypad_index=0, joypad_mask=0, p15_high=True, "), said)
+        self.assertIn("transfer=None, palettes=<32 bytes>, ", said)
+        self.assertIn("packets=<0 bytes>, capture=<23040 bytes>, frozen_capture=None, ", said)
+
+    def test_example(self):
+        """The first state of examples/c/state.c, as it prints it."""
+        state = Unit.post_boot().to_state()
+        told = [f"  sgb_{name}: {str(getattr(state, name)).lower()}" for name in list(vars(state))[:10]]
+        for name, span in state.spans.items():
+            sum = 2166136261
+            for byte in span or b"":
+                sum = (sum ^ byte) * 16777619 & 0xFFFFFFFF
+            told += [] if span is None else [f"  sgb_{name}: {len(span)} bytes, sum {sum:08X}"]
+        with open(os.path.join(EXAMPLES, "state.stdout")) as file:
+            due = file.read().splitlines()
+        self.assertEqual(told, due[1 : 1 + len(told)])
+        self.assertEqual(due[1 + len(told)], "  from_state: taken")
 
 
 class Play(Case):

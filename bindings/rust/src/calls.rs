@@ -80,6 +80,67 @@ mod c {
             bytes: *mut u8,
             room: usize,
         ) -> u32;
+        pub fn sporedrift_from_spans(
+            block: *mut u8,
+            len: usize,
+            fields: *const u8,
+            fields_len: usize,
+            present: u16,
+            palettes: *const u8,
+            palettes_len: usize,
+            attribute_map: *const u8,
+            attribute_map_len: usize,
+            system_palettes: *const u8,
+            system_palettes_len: usize,
+            attribute_files: *const u8,
+            attribute_files_len: usize,
+            packet: *const u8,
+            packet_len: usize,
+            packets: *const u8,
+            packets_len: usize,
+            capture: *const u8,
+            capture_len: usize,
+            frozen_capture: *const u8,
+            frozen_capture_len: usize,
+            preset: *const u8,
+            preset_len: usize,
+            border_tiles: *const u8,
+            border_tiles_len: usize,
+            border_map: *const u8,
+            border_map_len: usize,
+            border_palettes: *const u8,
+            border_palettes_len: usize,
+        ) -> u32;
+        pub fn sporedrift_to_spans(
+            block: *const u8,
+            len: usize,
+            fields: *mut u8,
+            room: usize,
+            palettes: *mut u8,
+            palettes_len: usize,
+            attribute_map: *mut u8,
+            attribute_map_len: usize,
+            system_palettes: *mut u8,
+            system_palettes_len: usize,
+            attribute_files: *mut u8,
+            attribute_files_len: usize,
+            packet: *mut u8,
+            packet_len: usize,
+            packets: *mut u8,
+            packets_len: usize,
+            capture: *mut u8,
+            capture_len: usize,
+            frozen_capture: *mut u8,
+            frozen_capture_len: usize,
+            preset: *mut u8,
+            preset_len: usize,
+            border_tiles: *mut u8,
+            border_tiles_len: usize,
+            border_map: *mut u8,
+            border_map_len: usize,
+            border_palettes: *mut u8,
+            border_palettes_len: usize,
+        ) -> u32;
         pub fn sporedrift_version() -> u32;
     }
 }
@@ -123,6 +184,120 @@ pub fn post_boot(block: &mut [u8]) -> Result<(), Refusal> {
 /// Whether a saved block can be taken up. Refusals 1, 21 to 26.
 pub fn check(block: &[u8]) -> Result<(), Refusal> {
     done(unsafe { c::sporedrift_check(block.as_ptr(), block.len()) })
+}
+
+// ---- states of the emulator
+
+/// A state into a block, over whatever the block held. The fields are [`STATE_FIELDS`](crate::STATE_FIELDS) bytes, the spans stand in the
+/// order of [`STATE_SPANS`](crate::STATE_SPANS), and one that is none is missing. [`Unit::from_state`](crate::Unit::from_state) does it
+/// with names. Refusals 1, 8, 9, 21 to 26.
+///
+/// ```
+/// use sporedrift::{BLOCK, Refusal, STATE_FIELDS, STATE_SPANS, calls};
+///
+/// let zeros = STATE_SPANS.map(|(_, most)| vec![0; most]);
+/// let mut spans = zeros.each_ref().map(|bytes| Some(&bytes[..]));
+/// spans[5] = Some(&[]); // no packet is in
+/// spans[7] = None; // no screen is frozen
+/// let mut block = [0xFF; BLOCK];
+/// assert_eq!(calls::from_spans(&mut block, &[0; STATE_FIELDS], spans), Ok(()));
+/// assert_eq!(block, [0; BLOCK]);
+/// spans[0] = None;
+/// assert_eq!(calls::from_spans(&mut block, &[0; STATE_FIELDS], spans), Err(Refusal::Span));
+/// ```
+pub fn from_spans(
+    block: &mut [u8],
+    fields: &[u8],
+    spans: [Option<&[u8]>; 12],
+) -> Result<(), Refusal> {
+    let present = (0..12).filter(|k| spans[*k].is_some());
+    let present = present.fold(0, |bits: u16, k| bits | 1 << k);
+    let s = spans.map(Option::unwrap_or_default);
+    done(unsafe {
+        c::sporedrift_from_spans(
+            block.as_mut_ptr(),
+            block.len(),
+            fields.as_ptr(),
+            fields.len(),
+            present,
+            s[0].as_ptr(),
+            s[0].len(),
+            s[1].as_ptr(),
+            s[1].len(),
+            s[2].as_ptr(),
+            s[2].len(),
+            s[3].as_ptr(),
+            s[3].len(),
+            s[4].as_ptr(),
+            s[4].len(),
+            s[5].as_ptr(),
+            s[5].len(),
+            s[6].as_ptr(),
+            s[6].len(),
+            s[7].as_ptr(),
+            s[7].len(),
+            s[8].as_ptr(),
+            s[8].len(),
+            s[9].as_ptr(),
+            s[9].len(),
+            s[10].as_ptr(),
+            s[10].len(),
+            s[11].as_ptr(),
+            s[11].len(),
+        )
+    })
+}
+
+/// A block as a state, at the front of what is lent: which spans are there, a bit each, from the least significant on. Those that are not
+/// keep all their bytes. Every span needs room for the most that it can have, and the fields need [`STATE_FIELDS`](crate::STATE_FIELDS)
+/// bytes. [`Unit::to_state`](crate::Unit::to_state) does it with names. Refusals 1, 21 to 26, 6.
+///
+/// ```
+/// use sporedrift::{STATE_FIELDS, STATE_SPANS, Unit, calls};
+///
+/// let (unit, mut fields) = (Unit::post_boot(), [0xFF; STATE_FIELDS]);
+/// let mut room = STATE_SPANS.map(|(_, most)| vec![0; most]);
+/// let lent = room.each_mut().map(|bytes| &mut bytes[..]);
+/// let present = calls::to_spans(unit.as_bytes(), &mut fields, lent)?;
+/// assert_eq!(present, 0xF7F); // all but the frozen capture
+/// assert_eq!(fields, [0, 0, 0, 1, 1, 0, 0, 0, 0, 1, 0, 0]);
+/// # Ok::<(), sporedrift::Refusal>(())
+/// ```
+pub fn to_spans(block: &[u8], fields: &mut [u8], spans: [&mut [u8]; 12]) -> Result<u16, Refusal> {
+    let s = spans;
+    let answer = unsafe {
+        c::sporedrift_to_spans(
+            block.as_ptr(),
+            block.len(),
+            fields.as_mut_ptr(),
+            fields.len(),
+            s[0].as_mut_ptr(),
+            s[0].len(),
+            s[1].as_mut_ptr(),
+            s[1].len(),
+            s[2].as_mut_ptr(),
+            s[2].len(),
+            s[3].as_mut_ptr(),
+            s[3].len(),
+            s[4].as_mut_ptr(),
+            s[4].len(),
+            s[5].as_mut_ptr(),
+            s[5].len(),
+            s[6].as_mut_ptr(),
+            s[6].len(),
+            s[7].as_mut_ptr(),
+            s[7].len(),
+            s[8].as_mut_ptr(),
+            s[8].len(),
+            s[9].as_mut_ptr(),
+            s[9].len(),
+            s[10].as_mut_ptr(),
+            s[10].len(),
+            s[11].as_mut_ptr(),
+            s[11].len(),
+        )
+    };
+    value(answer).map(|present| present as u16)
 }
 
 // ---- what the game does

@@ -23,8 +23,10 @@
 //! ```
 //!
 //! A unit's block is always valid, so most of its methods can't fail and answer a plain value. What may be refused is what a caller
-//! brings: a saved block, a screen, a place, a command, a line of a log. [`Refusal`] says why, and of a saved block also at which byte.
-//! [`calls`] has every call of the C header over slices of the caller's own.
+//! brings: a saved block, a state of the emulator, a screen, a place, a command, a line of a log. [`Refusal`] says why, and of a saved
+//! block also at which byte. [`calls`] has every call of the C header over slices of the caller's own.
+//!
+//! A unit that the emulator missingno saved is a [`State`]: [`Unit::from_state`] takes it up, [`Unit::to_state`] makes one.
 //!
 //! The crate links `libsporedrift`: see its README for where that is looked for.
 
@@ -34,6 +36,7 @@ pub mod calls;
 mod field;
 mod line;
 mod refusal;
+mod state;
 mod unit;
 mod words;
 
@@ -42,6 +45,7 @@ use std::fmt;
 pub use field::field_text;
 pub use line::{Line, lines, parse_line};
 pub use refusal::{Refusal, Rule};
+pub use state::{STATE_FIELDS, STATE_SPANS, State};
 pub use unit::{Command, MaskMode, Played, Transfer, Unit};
 pub use words::{BorderMapEntry, Rgb555};
 

@@ -5,7 +5,8 @@ use std::fmt;
 
 /// Why a call refused what it was given. A refused call changes nothing.
 ///
-/// Where several hold, the one that the call tests first is told: the block's length, its rules, and then what else was given.
+/// Where several hold, the one that the call tests first is told: the block's length, its rules, and then what else was given. A state's
+/// spans and cells come before the rules, which are asked of the block that it would become.
 ///
 /// ```
 /// use sporedrift::{Refusal, Unit};
@@ -30,7 +31,12 @@ pub enum Refusal {
     Output,
     /// 7: the text is no line of a log.
     Line,
-    /// 21 to 26: the block is not valid. [`Unit::load`](crate::Unit::load) meets this one; a unit's own block is always valid.
+    /// 8: a span of the state is missing, or is not as long as it must be.
+    Span,
+    /// 9: a cell of the state's attribute map, or of one of its attribute files, is over 3.
+    Cell,
+    /// 21 to 26: the block is not valid. [`Unit::load`](crate::Unit::load) meets this one, and so does
+    /// [`Unit::from_state`](crate::Unit::from_state), of the block that the state would become; a unit's own block is always valid.
     ///
     /// ```
     /// use sporedrift::{Refusal, Rule, Unit};
@@ -65,6 +71,8 @@ impl Refusal {
             Refusal::Command => 5,
             Refusal::Output => 6,
             Refusal::Line => 7,
+            Refusal::Span => 8,
+            Refusal::Cell => 9,
             Refusal::Rule { rule, .. } => 20 + rule.number(),
             Refusal::Other(number) => number,
         }
@@ -87,6 +95,8 @@ impl Refusal {
             5 => return Refusal::Command,
             6 => return Refusal::Output,
             7 => return Refusal::Line,
+            8 => return Refusal::Span,
+            9 => return Refusal::Cell,
             21 => Rule::V1,
             22 => Rule::V2,
             23 => Rule::V3,
@@ -113,6 +123,10 @@ impl fmt::Display for Refusal {
             }
             Refusal::Output => f.write_str("the output is short"),
             Refusal::Line => f.write_str("the text is no line of a log"),
+            Refusal::Span => {
+                f.write_str("a span of the state is missing, or is not as long as it must be")
+            }
+            Refusal::Cell => f.write_str("a cell of the state's attribute map or files is over 3"),
             Refusal::Rule { rule, offset } => {
                 write!(f, "rule {rule} is broken at byte {offset} ({offset:#X})")?;
                 match field_text(*offset) {

@@ -1,8 +1,8 @@
 //! The unit, and what its methods take and answer.
 
 use crate::{
-    BLOCK, BorderMapEntry, COMMAND, PACKET, PICTURE, Refusal, Rgb555, SCREEN, TILE, TILES, WIDTH,
-    calls,
+    BLOCK, BorderMapEntry, COMMAND, PACKET, PICTURE, Refusal, Rgb555, SCREEN, State, TILE, TILES,
+    WIDTH, calls,
 };
 use std::fmt;
 
@@ -231,6 +231,47 @@ impl Unit {
         let copy: Box<[u8]> = saved.into();
         let block = copy.try_into().map_err(|_| Refusal::Length)?;
         Ok(Unit { block })
+    }
+
+    /// A unit that the emulator saved. [`Refusal::Span`] or [`Refusal::Cell`] if a span or a cell is not as it must be; [`Refusal::Rule`]
+    /// of the block that it would become: the emulator takes states that no valid block can hold.
+    ///
+    /// Of a shade the low two bits are taken; beside a countdown of 0 a kind of 0 to 4 means nothing; a preset that is not in force is
+    /// not looked at; and where one of the border's three spans is missing, the border is empty and the other two are not looked at.
+    ///
+    /// ```
+    /// use sporedrift::{Refusal, Rule, Unit};
+    ///
+    /// let mut state = Unit::post_boot().to_state();
+    /// assert_eq!(Unit::from_state(&state)?, Unit::post_boot());
+    /// state.mask = 1; // a frozen screen, and no capture of it
+    /// assert_eq!(Unit::from_state(&state), Err(Refusal::Rule { rule: Rule::V6, offset: 0 }));
+    /// state.capture = None;
+    /// assert_eq!(Unit::from_state(&state), Err(Refusal::Span));
+    /// # Ok::<(), Refusal>(())
+    /// ```
+    pub fn from_state(state: &State) -> Result<Self, Refusal> {
+        let mut unit = Unit::new();
+        state.put(&mut unit.block[..])?;
+        Ok(unit)
+    }
+
+    /// The unit as a state of the emulator. [`Unit::from_state`] makes the same unit of it.
+    ///
+    /// ```
+    /// use sporedrift::{Unit, encode};
+    ///
+    /// let mut unit = Unit::post_boot();
+    /// assert_eq!(unit.to_state().transfer, None); // two fields that the emulator's record must not have
+    /// let mut pct_trn = [0; 16];
+    /// pct_trn[0] = 0xA1;
+    /// unit.play_all(&encode(&pct_trn)?, |_| ());
+    /// assert_eq!(unit.to_state().transfer, Some((3, 4)));
+    /// assert_eq!(Unit::from_state(&unit.to_state())?, unit);
+    /// # Ok::<(), sporedrift::Refusal>(())
+    /// ```
+    pub fn to_state(&self) -> State {
+        sure(State::of(&self.block[..]))
     }
 
     /// The unit's block: as it is saved, and to look at.

@@ -1,5 +1,5 @@
 //! Every refusal of every call over slices: the block's come first, then the lowest number, and no lent byte changes. rules.rs has those
-//! of a broken rule.
+//! of a broken rule, state.rs those of the calls about states.
 
 use sporedrift::{
     BLOCK, COMMAND, LINE, PICTURE, Refusal, Rgb555, Rule, SCREEN, TILE, Unit, WIDTH, calls,
@@ -257,6 +257,8 @@ fn numbers_and_words() {
         (Refusal::Command, 5),
         (Refusal::Output, 6),
         (Refusal::Line, 7),
+        (Refusal::Span, 8),
+        (Refusal::Cell, 9),
     ];
     for (refusal, number) in all {
         assert_eq!(refusal.number(), number);

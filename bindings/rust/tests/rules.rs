@@ -1,7 +1,9 @@
 //! Damaged blocks: which rule is broken, at which byte, and in which words.
 
 use sporedrift::Rule::{self, V1, V2, V3, V4, V5, V6};
-use sporedrift::{BLOCK, COMMAND, PICTURE, Refusal, Rgb555, SCREEN, Unit, calls, field_text};
+use sporedrift::{
+    BLOCK, COMMAND, PICTURE, Refusal, Rgb555, SCREEN, STATE_SPANS, Unit, calls, field_text,
+};
 
 fn idle() -> Vec<u8> {
     Unit::post_boot().as_bytes().to_vec()
@@ -59,6 +61,9 @@ fn every_call_refuses(block: &[u8], refusal: Refusal) {
         let mut command = vec![0x5A; if right { COMMAND } else { 0 }];
         let mut words = vec![Rgb555(0xA5C3); if right { PICTURE } else { 0 }];
         let screen = vec![0x1B; if right { SCREEN } else { 0 }];
+        let mut fields = [0x3C; 12];
+        let mut spans = STATE_SPANS.map(|(_, most)| vec![0x3C; if right { most } else { 0 }]);
+        let lent = spans.each_mut().map(|span| &mut span[..]);
         let told = [
             calls::check(&after),
             calls::write_joypad(&mut after, 0x00, &mut command).map(drop),
@@ -71,11 +76,14 @@ fn every_call_refuses(block: &[u8], refusal: Refusal) {
             calls::border_color_at(&after, at, at).map(drop),
             calls::row(&after, at, &mut words).map(drop),
             calls::picture(&after, &mut words).map(drop),
+            calls::to_spans(&after, &mut fields, lent).map(drop),
         ];
-        assert_eq!(told, [Err(refusal); 11]);
+        assert_eq!(told, [Err(refusal); 12]);
         assert_eq!(after, block);
         assert!(command.iter().all(|byte| *byte == 0x5A));
         assert!(words.iter().all(|word| *word == Rgb555(0xA5C3)));
+        let state = spans.iter().flatten().chain(&fields);
+        assert!(state.into_iter().all(|byte| *byte == 0x3C));
     }
 }
 
