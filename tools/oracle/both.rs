@@ -23,13 +23,31 @@ pub fn marked(len: usize) -> Vec<u8> {
 impl Both {
     /// `spare`: bytes that the buffer has past those that it must have.
     pub fn load(block: &[u8], spare: usize) -> Self {
+        Both::beside(block, Oracle::load(block), spare)
+    }
+
+    /// A block, and a unit that must be the same.
+    pub fn beside(block: &[u8], rust: Oracle, spare: usize) -> Self {
         counts::start(block);
         Both {
             port: block.to_vec(),
             buffer: marked(COMMAND_LEN + spare),
-            rust: Oracle::load(block),
+            rust,
             due: marked(COMMAND_LEN + spare),
         }
+    }
+
+    /// The port's block and the Rust's unit as they stand.
+    pub fn sides(&self) -> (&[u8], &Oracle) {
+        (&self.port, &self.rust)
+    }
+
+    pub fn event(&mut self, event: &Event, by: By) -> Result<(), String> {
+        match event {
+            Event::Writes(writes) => drop(self.line(writes, by)?),
+            Event::Screen(screen) => drop(self.screen(screen)?),
+        }
+        Ok(())
     }
 
     /// The command that it completes, or no byte.
@@ -138,11 +156,6 @@ pub enum By {
 /// Both take the events: the same answers and buffers, and the same block at each command and screen and at the end.
 pub fn follow(block: &[u8], spare: usize, events: &[Event], by: By) -> Result<(), String> {
     let mut both = Both::load(block, spare);
-    for event in events {
-        match event {
-            Event::Writes(writes) => drop(both.line(writes, by)?),
-            Event::Screen(screen) => drop(both.screen(screen)?),
-        }
-    }
+    events.iter().try_for_each(|event| both.event(event, by))?;
     both.same()
 }

@@ -30,6 +30,10 @@ const CLASSES: u64 = 640;
 /// What a refused block may be told by: 3 bytes of V1, 7 of V2, 4 and the two packet parts' 128 of V3, 2 of V4, 8 of V5, and of V6 byte 0 and
 /// the capture's 5,760.
 pub const OFFSETS: u64 = 5913;
+/// The kinds of states that the Rust takes and we refuse (`suites/states/listed.rs`).
+pub const LISTED: u64 = 24;
+/// What a state that comes in can be answered, by the number alone.
+pub const TOLD: [u8; 9] = [0, 1, 8, 9, 21, 22, 23, 24, 26];
 
 #[derive(Default)]
 pub struct Counts {
@@ -52,6 +56,13 @@ pub struct Counts {
     /// Damaged blocks: invalid, by the refusal's number and offset, and still valid.
     pub refused: BTreeMap<(u8, usize), u64>,
     pub unhurt: u64,
+    /// States of the emulator: the Rust's that came in, ours that went out and were read by the Rust, those that came back; all that came in
+    /// by the number that was answered; those that the Rust takes and we refuse, by the kind on the list of differences.
+    pub states_in: u64,
+    pub states_out: u64,
+    pub states_back: u64,
+    pub states: BTreeMap<u8, u64>,
+    pub listed: BTreeMap<&'static str, u64>,
     /// Pairs of merged logs, and screens moved over a fixed write, by its kind, after which the outcome was another.
     pub merged: u64,
     pub moved: [u64; 7],
@@ -96,6 +107,21 @@ pub fn offsets() -> u64 {
     COUNTS.with_borrow(|c| c.refused.len() as u64)
 }
 
+/// A state that came in, by what was answered.
+pub fn state(told: u32) {
+    count(|c| *c.states.entry(told as u8).or_default() += 1);
+}
+
+/// How often a refusal was the answer to a state, 0 for none.
+pub fn states(number: u8) -> u64 {
+    COUNTS.with_borrow(|c| c.states.get(&number).copied().unwrap_or(0))
+}
+
+/// The listed kinds of states that were met so far.
+pub fn listed() -> Vec<&'static str> {
+    COUNTS.with_borrow(|c| c.listed.keys().copied().collect())
+}
+
 pub fn start(b: &[u8]) {
     count(|c| {
         if b == block::new() {
@@ -130,6 +156,15 @@ impl Counts {
             *self.refused.entry(*pair).or_default() += n;
         }
         self.unhurt += other.unhurt;
+        self.states_in += other.states_in;
+        self.states_out += other.states_out;
+        self.states_back += other.states_back;
+        for (number, n) in &other.states {
+            *self.states.entry(*number).or_default() += n;
+        }
+        for (kind, n) in &other.listed {
+            *self.listed.entry(kind).or_default() += n;
+        }
         self.merged += other.merged;
         sum(&mut self.moved, &other.moved);
     }
@@ -139,6 +174,7 @@ impl Counts {
         let mut all = self.written();
         all.extend(self.shown());
         all.extend(self.blocks());
+        all.extend(self.exchanged());
         all
     }
 
@@ -191,6 +227,40 @@ impl Counts {
             let name = format!("other outcomes by a screen moved over {kind}");
             all.push(figure(name, n, 10));
         }
+        all
+    }
+
+    fn exchanged(&self) -> Vec<Figure> {
+        let mut all = vec![
+            figure("states of the Rust's that came in", self.states_in, 10_000),
+            figure(
+                "states that went out to the Rust, with a run",
+                self.states_out,
+                10_000,
+            ),
+            figure("states that came back", self.states_back, 10_000),
+        ];
+        for number in TOLD {
+            let name = match number {
+                0 => "states taken".to_string(),
+                _ => format!("states refused with {number}"),
+            };
+            let n = self.states.get(&number).copied().unwrap_or(0);
+            all.push(figure(name, n, 1000));
+        }
+        let kinds = self.listed.len() as u64;
+        let fewest = match kinds {
+            LISTED => self.listed.values().min().copied().unwrap_or(0),
+            _ => 0,
+        };
+        let listed = self.listed.values().sum();
+        all.push(figure(
+            "states that the Rust takes and we refuse",
+            listed,
+            10_000,
+        ));
+        all.push(figure("listed kinds of these", kinds, LISTED));
+        all.push(figure("states of the rarest kind", fewest, 100));
         all
     }
 }

@@ -15,6 +15,7 @@ mod oracle;
 mod port;
 mod rng;
 mod shrink;
+mod state;
 mod stored;
 mod suites;
 mod valid;

@@ -28,6 +28,7 @@ suites! {
     unit 4 * 1,
     receiver 1 * 4,
     broken 2 * 20,
+    states 4 * 6,
     oracle 2 * 3,
     leaves 1 * 1,
     commands 4 * 10,
