@@ -1,20 +1,24 @@
-//! Times jobs of Sporedrift beside the same jobs of the Rust, and the check of refused blocks beside that of valid ones. In a turn each
-//! side runs once, one after the other, so that a busy or slow moment meets both. A round has several turns and tells one ratio, of the
-//! best time of each side; the middle one of the rounds' ratios counts, and the least and the greatest show how far to trust it. Answers
-//! are compared before anything is timed.
+//! Times jobs of Sporedrift beside the same jobs of the Rust, the check of refused blocks beside that of valid ones, and a state in beside a
+//! plain copy. In a turn each side runs once, one after the other, so that a busy or slow moment meets both. A round has several turns and
+//! tells one ratio, of the best time of each side; the middle one of the rounds' ratios counts, and the least and the greatest show how far
+//! to trust it. Answers are compared before anything is timed.
 
 // of tools/oracle, beside which `run` puts this: its parts stand ready for every job
 #![allow(dead_code, unused_imports)]
 
 mod block;
+mod both;
 mod broken;
+mod counts;
 mod driver;
 mod event;
 mod generate;
 mod jobs;
 mod oracle;
+mod port;
 mod rng;
 mod shrink;
+mod state;
 mod valid;
 
 use std::hint::black_box;
@@ -32,7 +36,7 @@ pub struct Job {
     pub name: &'static str,
     pub limit: f64,
     pub port: Turn,
-    /// What it is held to: the Rust, or another run of ours.
+    /// What it is held to: the Rust, another run of ours, or a plain copy.
     pub other: Turn,
 }
 

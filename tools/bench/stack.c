@@ -1,7 +1,7 @@
 /* The stack that each call of include/sporedrift.h takes, measured: a call runs on a stack of its own that was painted before, and what
  * it has overwritten tells how deep it went. Each is driven over what may reach its deepest path: every command at every length, a
- * landing of every kind, every mask mode, pictures with and without a border, and refusals. Two paints are used, since a word that a
- * call fills with the paint is not seen.
+ * landing of every kind, every mask mode, pictures with and without a border, states of the emulator out and in, and refusals. Two paints
+ * are used, since a word that a call fills with the paint is not seen.
  * It prints 'NAME BYTES' for each call, the most that was seen; before them 'deep', a call that takes DEEP bytes and has to be seen. */
 #define _GNU_SOURCE
 #include <stdio.h>
@@ -44,6 +44,10 @@ static uint8_t text[2 * SPOREDRIFT_LINE + 4], line[SPOREDRIFT_LINE];
 static const uint8_t *lent = writes;
 static size_t lent_len, text_len, line_len = sizeof line;
 static uint32_t answer;
+static struct sporedrift_state state;
+static uint8_t fields[SPOREDRIFT_STATE_FIELDS];
+static size_t fields_len = sizeof fields;
+static uint16_t present;
 
 static struct { const char *name; size_t most; } seen[NAMES];
 
@@ -79,6 +83,16 @@ MEASURED(encode, sent, sent_len, writes, writes_len)
 MEASURED(verdict, sent, sent_len)
 MEASURED(parse_line, text, text_len, line, line_len)
 MEASURED(version, )
+
+/* The two over slices, and the header's own over its struct, which stand above them. */
+#define SPAN(name) state.name.at, state.name.len
+#define SPANS \
+    SPAN(palettes), SPAN(attribute_map), SPAN(system_palettes), SPAN(attribute_files), SPAN(packet), SPAN(packets), SPAN(capture), \
+        SPAN(frozen_capture), SPAN(preset), SPAN(border_tiles), SPAN(border_map), SPAN(border_palettes)
+MEASURED(from_spans, block, block_len, fields, fields_len, present, SPANS)
+MEASURED(to_spans, block, block_len, fields, fields_len, SPANS)
+MEASURED(from_state, block, block_len, &state)
+MEASURED(to_state, block, block_len, &state)
 
 static void call_deep(void) {
     volatile uint8_t bytes[DEEP];
@@ -122,6 +136,79 @@ static void look(void) {
     }
     for (y = 0; y <= SPOREDRIFT_HEIGHT; y += 8) measure_row();
     measure_picture();
+}
+
+/* ---- states of the emulator */
+
+enum { SPAN_COUNT = SPOREDRIFT_STATE_SPANS };
+
+static struct sporedrift_span *span(int k) {
+    struct sporedrift_span *const spans[SPAN_COUNT] = {
+        &state.palettes, &state.attribute_map,  &state.system_palettes, &state.attribute_files, &state.packet,     &state.packets,
+        &state.capture,  &state.frozen_capture, &state.preset,          &state.border_tiles,    &state.border_map, &state.border_palettes};
+    return spans[k];
+}
+
+/* Every span with room for its greatest length. */
+static void lend(void) {
+    static const size_t room[SPAN_COUNT] = {
+        SPOREDRIFT_STATE_PALETTES, SPOREDRIFT_STATE_ATTRIBUTE_MAP, SPOREDRIFT_STATE_SYSTEM_PALETTES, SPOREDRIFT_STATE_ATTRIBUTE_FILES,
+        SPOREDRIFT_STATE_PACKET,   SPOREDRIFT_STATE_PACKETS,       SPOREDRIFT_STATE_CAPTURE,         SPOREDRIFT_STATE_FROZEN_CAPTURE,
+        SPOREDRIFT_STATE_PRESET,   SPOREDRIFT_STATE_BORDER_TILES,  SPOREDRIFT_STATE_BORDER_MAP,      SPOREDRIFT_STATE_BORDER_PALETTES};
+    static uint8_t bytes[SPAN_COUNT][SPOREDRIFT_STATE_CAPTURE];
+    for (int k = 0; k < SPAN_COUNT; k++) span(k)->at = bytes[k], span(k)->len = room[k];
+}
+
+/* Which refusals were told, a bit each. */
+static uint32_t told_in, told_out;
+
+static void both_in(void) {
+    memcpy(fields, (uint8_t *)&state, sizeof fields); /* the struct's first twelve bytes */
+    for (int k = present = 0; k < SPAN_COUNT; k++) present |= (uint16_t)(span(k)->present ? 1 << k : 0);
+    measure_from_spans();
+    measure_from_state();
+    told_in |= 1u << sporedrift_refusal(answer);
+}
+
+static void both_out(void) {
+    measure_to_spans();
+    measure_to_state();
+    told_out |= 1u << sporedrift_refusal(answer);
+}
+
+/* Refusal 8 for each span that is short or missing, or what is taken without it; 9 for a cell; 21 to 26 for a field, and for the packets. */
+static void every_state_refused(void) {
+    for (int k = 0; k < SPAN_COUNT; k++) {
+        struct sporedrift_span was = *span(k);
+        span(k)->present = 0, both_in();
+        span(k)->present = 1, span(k)->len++, both_in();
+        *span(k) = was;
+        if (!was.len) continue;
+        for (size_t end = 0; end < 2; end++) {
+            uint8_t *at = span(k)->at + (end ? was.len - 1 : 0), kept = *at;
+            *at = 0xFF, both_in(), *at = kept;
+        }
+    }
+    for (size_t i = 0; i < sizeof fields; i++) {
+        uint8_t *at = (uint8_t *)&state + i, kept = *at;
+        *at = 0xFF, both_in(), *at = kept;
+    }
+    fields_len = 1, both_in(), fields_len = sizeof fields;
+    block_len = 1, both_in(), block_len = sizeof block;
+}
+
+/* The block out and in again, which keeps it; then what is refused, and what is taken in part, after which it is put back. */
+static void exchange(void) {
+    static uint8_t kept[sizeof block];
+    memcpy(kept, block, sizeof block);
+    lend(), both_out();
+    if (answer) die("a block is not let out");
+    both_in();
+    if (answer || memcmp(block, kept, sizeof block)) die("a block is not the same after out and in");
+    every_state_refused();
+    memcpy(block, kept, sizeof block);
+    for (int k = 0; k < SPAN_COUNT; k++) lend(), span(k)->len--, both_out();
+    lend(), fields_len = 1, measure_to_spans(), fields_len = sizeof fields;
 }
 
 /* A command by its pulses. Of the writes the first and the last of a packet are measured, and some between. */
@@ -222,10 +309,24 @@ static void every_landing_and_mask(void) {
         one(0x17, mask);
         for (int kind = 0; kind < 5; kind++) {
             one(codes[kind][0], codes[kind][1]);
+            exchange();
             show(kind);
         }
         look();
+        exchange();
     }
+}
+
+/* The receiver at rest, within a packet and between two. */
+static void every_stage(void) {
+    noise(sent, sizeof sent);
+    sent[0] = 0x08 << 3 | 7, sent_len = sizeof sent;
+    uint32_t n = sporedrift_value(sporedrift_encode(sent, sent_len, writes, writes_len));
+    for (uint32_t i = 0; i < n; i++) {
+        if (i % 129 == 0 || i % SPOREDRIFT_PACKET_WRITES == 0) exchange();
+        value = writes[i], call_write_joypad();
+    }
+    exchange();
 }
 
 /* A byte that no valid block has, in each of the first 16, and at both ends of each part that must be zero. */
@@ -235,14 +336,14 @@ static void every_broken_byte(void) {
     for (size_t i = 0; i < 16 + sizeof ends / sizeof *ends; i++) {
         size_t at = i < 16 ? i : ends[i - 16];
         uint8_t was = block[at];
-        block[at] = 0xFF, look(), measure_write_joypad(), measure_play(), measure_update_screen(), block[at] = was;
+        block[at] = 0xFF, look(), lend(), both_out(), measure_write_joypad(), measure_play(), measure_update_screen(), block[at] = was;
         if (sporedrift_refusal(answer) <= SPOREDRIFT_REFUSED_LENGTH) die("a broken block is not refused");
     }
 }
 
 static void every_refusal(void) {
     lent = writes, lent_len = sizeof writes;
-    block_len = 1, look(), measure_write_joypad(), measure_play(), measure_update_screen(), measure_new(), measure_post_boot();
+    block_len = 1, look(), lend(), both_out(), measure_write_joypad(), measure_play(), measure_update_screen(), measure_new(), measure_post_boot();
     block_len = sizeof block;
     screen_len = 1, measure_update_screen(), screen_len = sizeof screen;
     command_len = 1, measure_write_joypad(), measure_play(), command_len = sizeof command;
@@ -261,14 +362,17 @@ int main(void) {
     for (int turn = 0; turn < 2; turn++) {
         paint = turn ? 0x5A5A5A5A5A5A5A5A : 0xA5A5A5A5A5A5A5A5, taken = STACK / 8;
         note("deep", used_by(call_deep));
-        measure_new(), look();
-        measure_post_boot(), look();
+        measure_new(), look(), exchange();
+        measure_post_boot(), look(), exchange();
         every_command();
         every_landing_and_mask();
+        every_stage();
         every_line();
         measure_version();
         every_refusal();
     }
     if (sporedrift_check(block, sizeof block)) die("the block is not valid at the end");
+    /* 0, 1, 8, 9, 21 to 24 and 26, since a state can't break V5; 0, 1, 6, 21 to 26 */
+    if (told_in != 0x5E00303 || told_out != 0x7E00043) die("not every refusal of a state was told");
     for (size_t i = 0; seen[i].name; i++) printf("%s %zu\n", seen[i].name, seen[i].most);
 }

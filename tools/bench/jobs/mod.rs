@@ -5,6 +5,7 @@ use crate::Table;
 mod check;
 mod picture;
 mod screen;
+mod state;
 mod whole;
 mod writes;
 
@@ -13,6 +14,7 @@ pub fn all() -> Vec<Table> {
         writes::jobs(),
         screen::jobs(),
         picture::jobs(),
+        state::jobs(),
         whole::jobs(),
     ];
     vec![
@@ -25,6 +27,11 @@ pub fn all() -> Vec<Table> {
             heading: "check of a block, damaged and before | refused, ns | valid, ns",
             units: 1000.0,
             jobs: check::jobs(),
+        },
+        Table {
+            heading: "a state, and as many bytes by a table | ours, us | by a table, us",
+            units: 1.0,
+            jobs: state::beside_a_look_up(),
         },
     ]
 }
