@@ -1,2 +1,4 @@
 pub mod Takes
 pub mod Answers
+pub mod Calls
+pub mod Determined

@@ -12,9 +12,7 @@ ghost use Rattle.state_spans.specs.Going as spec;
 use bits::put;
 use bits::wide;
 use state_cells::unpack_cells;
-
-// The fields, a byte each.
-const FIELDS: usize = 12;
+use state_fits::FIELDS;
 
 // ---- room for the longest that each can be: refusal 6
 
@@ -215,7 +213,8 @@ pub fn lay(
     lay_border(block, border_tiles, border_map, border_palettes);
 }
 
-// Which spans are there: all, but for the frozen capture and the preset where there is none.
+// Which spans are there: all, but for the frozen capture (bit 7) and the preset (bit 8) where there is none. Without these two the twelve bits are
+// 3711.
 pub fn present_in(block: &[u8]) -> usize
     requires { ⌜ length (now block) ≡ blockBytes ⌝ }
     ensures { λ r. ⌜ r ≡ presentIn (spec.stateOf (now (block .entry))) ⌝ }

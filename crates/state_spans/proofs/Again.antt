@@ -179,9 +179,10 @@ module _ (b : List ℕ) (s : State) (e : fromAnswer b s ≡ 0) where
   unfolding kept borderFrom
   border-forgotten z =
       let emptied : (n : ℕ) (o : Option (List ℕ)) → some (borderFrom (borderOf s) n o) ≡ some (replicate n 0) =
-      λ n o. ap (λ (t : Bool). some (cond t (bytesIn o) (replicate n 0))) z in
-      (ap (λ (x : State). x .borderTiles) in-out ∙ emptied tilesBytes (s .borderTiles),
-      (ap (λ (x : State). x .borderMap) in-out ∙ emptied borderMapBytes (s .borderMap), ap (λ (x : State). x .borderPalettes) in-out ∙ emptied borderPalettesBytes (s .borderPalettes)))
+      λ n o. ap (λ (t : Bool). some (cond t (bytesIn o) (replicate n 0))) z in (
+        ap (λ (x : State). x .borderTiles) in-out ∙ emptied tilesBytes (s .borderTiles),
+        (ap (λ (x : State). x .borderMap) in-out ∙ emptied borderMapBytes (s .borderMap), ap (λ (x : State). x .borderPalettes) in-out ∙ emptied borderPalettesBytes (s .borderPalettes)),
+      )
 
 whole-is : (x y z : Option (List ℕ)) → wholeBorder x y z ≡ true → (isThere x && (isThere y && isThere z)) ≡ true
 unfolding wholeBorder

@@ -4,3 +4,4 @@ pub mod Blocks
 pub mod Stored
 pub mod Out
 pub mod Again
+pub mod Lents

@@ -1,11 +1,11 @@
 -- A block that goes out and comes in again is the same block, and a state that is taken gives a valid one. Each part of the block comes back from
 -- the span that it went out as; of the header bytes 12 to 15, which are no fields, are the frozen capture's presence and zeros.
 use mathlib.Core.Path.{_≡_, refl, sym, ap, _∙_}
-use mathlib.Core.Bool.{Bool, true, false, _&&_, _||_, cond}
+use mathlib.Core.Bool.{Bool, true, false, _&&_, _||_, cond, false≢true}
 use mathlib.Core.List.{List, [], _∷_, _++_}
 use mathlib.Core.Logic.{⊎-elim}
 use mathlib.Core.Option.{Option, none, some}
-use Prim.Native.Nat.{ℕ, zero, suc, _+_, _-_, _*_, _≤_, _<_}
+use Prim.Native.Nat.{ℕ, zero, suc, _+_, _-_, _*_, _%_, _≤_, _<_}
 use native.Mathlib.Nat.{zero-add}
 use native.Mathlib.Omega.{arith}
 use borrow.Author.Tests.{eq-eqb, ne-eqb, le-leb, eqb-true, leb-true}
@@ -17,8 +17,9 @@ use Rattle.bits.specs.Over.{part}
 use Rattle.bits.specs.Zero.{zeros}
 use Rattle.bits.proofs.Overs.{length-part, getD-part}
 use Rattle.bits.proofs.Tests.{and-left, and-right, and-true, or-either}
-use Rattle.bits.proofs.Zeros.{zeros-replicate, zeros-at}
+use Rattle.bits.proofs.Zeros.{zeros-replicate, replicate-zeros, zeros-at}
 use Rattle.broken.specs.Broken.{broken, brokenNumber}
+use Rattle.broken.specs.Told.{ruleHolds}
 use Rattle.broken.proofs.Numbers.{number-valid, Read, number-read}
 use Rattle.layout.specs.Block.{byte, isSet, isHeld, held, flat}
 use Rattle.layout.specs.Valid.{v4, v5, v6, maskAllows, valid, validParts, Valid}
@@ -30,7 +31,7 @@ use Rattle.state_cells.proofs.Celling.{length-unpackCells, pack-unpack, numbers
 use Rattle.state_spans.specs.State.{State, fieldBytes, mapCells, filesCells, capturePixels, isThere, bytesIn}
 use Rattle.state_spans.specs.Coming.{has, mayHave, packetsFit, presetFits, frontFits, tablesFit, capturesFit, wholeBorder, borderFits, fits, cellsFit, kindTaken, headerFrom, storeFrom, presetFrom, frontFrom, frozenFrom, borderFrom, partsFrom, blockFrom, fromAnswer, fromBlock}
 use Rattle.state_spans.specs.Going.{stateOf}
-use Rattle.state_spans.proofs.Blocks.{flat-nested, block-long}
+use Rattle.state_spans.proofs.Blocks.{flat-nested, block-long, thirteen-part}
 use Rattle.state_spans.proofs.Stored.{Stored, stored-in}
 
 -- ---- what is taken is valid
@@ -55,6 +56,40 @@ taken-valid b s e =
     holds : (v : Bool) → validParts (blockFrom s) ≡ v → brokenNumber (broken (blockFrom s)) ≡ 0 → validParts (blockFrom s) ≡ true
     holds true p z = p
     holds false p z = let k = number-read (blockFrom s) p .low in absurd (omega (arith, z, k))
+
+-- ---- V5 is never told: a preset without its flag comes in as zeros
+
+zeros-unless : (on : ℕ) (o : Option (List ℕ)) → cond (eqb on 0) (zeros (presetFrom on o)) true ≡ true
+unfolding presetFrom
+zeros-unless zero o = replicate-zeros presetBytes
+zeros-unless (suc n) o = rw (ne-eqb (suc n) 0 (λ z. omega (arith, z)))
+
+preset-holds : (s : State) → fits s ≡ true → v5 (blockFrom s) ≡ true
+unfolding v5
+preset-holds s h =
+    (λ t. cond (eqb (preset-byte s t) 0) (zeros (thirteen-part s h 3 (lit< tt) t)) true) ∙ zeros-unless (getD (s .fields) presetOnAt 0) (s .preset)
+  where
+    preset-byte : (u : State) → byte presetOnAt (blockFrom u) ≡ getD (u .fields) presetOnAt 0
+    preset-byte u = unfold blockFrom frontFrom in refl
+
+not-v5 : (b : List ℕ) → v5 b ≡ true → (n : ℕ) → n ≡ brokenNumber (broken b) → n % 256 ≡ 25 → ⊥
+not-v5 b h n e k = go (validParts b) refl
+  where
+    go : (t : Bool) → validParts b ≡ t → ⊥
+    go true p = let z : n ≡ 0 = e ∙ number-valid b p in omega (arith, z, k)
+    go false p =
+        let m = ap (λ (x : ℕ). x % 256 - 20) (sym e) ∙ ap (λ (x : ℕ). x - 20) k in
+        false≢true (sym (sym (ap (λ (r : ℕ). ruleHolds r b) m) ∙ number-read b p .first .breaks) ∙ h)
+
+pub never-25 : (b : List ℕ) (s : State) → fromAnswer b s % 256 ≡ 25 → ⊥
+unfolding fromAnswer
+never-25 b s e = go (eqb (length b) blockBytes) (fits s) (cellsFit s) refl e
+  where
+    go : (p q r : Bool) → fits s ≡ q → cond p (cond q (cond r (brokenNumber (broken (blockFrom s))) 9) 8) 1 % 256 ≡ 25 → ⊥
+    go true true true f z = not-v5 (blockFrom s) (preset-holds s f) (brokenNumber (broken (blockFrom s))) refl z
+    go true true false f z = omega (arith, z)
+    go true false r f z = omega (arith, z)
+    go false q r f z = omega (arith, z)
 
 -- ---- there and back
 
@@ -176,8 +211,14 @@ module _ (b : List ℕ) (v : Valid b) (bytes : (i : ℕ) → getD b i 0 < 256) w
   front-fits : frontFits (part 0 fieldBytes b) (some (part packetAt packetBytes b)) (some (part storeAt (16 * received) b)) (held (byte presetOnAt b) (part presetAt presetBytes b)) ≡ true
   unfolding frontFits packetsFit has
   front-fits =
-      rw (long-eqb 0 fieldBytes (lit≤ tt), long-eqb packetAt packetBytes (lit≤ tt), field-back receivedAt (lit< tt), field-back presetOnAt (lit< tt),
-      le-leb received 7 (stored-in b v .few), eq-eqb (length (part storeAt (16 * received) b)) (16 * received) packets-long)
+      rw (
+        long-eqb 0 fieldBytes (lit≤ tt),
+        long-eqb packetAt packetBytes (lit≤ tt),
+        field-back receivedAt (lit< tt),
+        field-back presetOnAt (lit< tt),
+        le-leb received 7 (stored-in b v .few),
+        eq-eqb (length (part storeAt (16 * received) b)) (16 * received) packets-long,
+      )
       (preset-fit (byte presetOnAt b))
     where
       preset-fit : (on : ℕ) → presetFits on (held on (part presetAt presetBytes b)) ≡ true

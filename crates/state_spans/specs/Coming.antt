@@ -10,7 +10,7 @@ use Rattle.broken.specs.Broken.{broken, brokenNumber}
 use Rattle.layout.specs.Block.{isSet, isHeld, flat}
 use Rattle.parts.specs.Parts.{blockBytes, maskAt, indexAt, padsAt, p15At, bothAt, stageAt, expectedAt, receivedAt, bitsAt, presetOnAt, countdownAt, kindAt, packetBytes, storeBytes, presetBytes, palettesBytes, mapBytes, systemBytes, filesBytes, captureBytes, tilesBytes, borderMapBytes, borderPalettesBytes}
 use Rattle.state_cells.specs.Cells.{packCells, paletteNumbers}
-use Rattle.state_spans.specs.State.{State, fieldBytes, field, mapCells, filesCells, capturePixels, isThere, bytesIn}
+use Rattle.state_spans.specs.State.{State, fieldBytes, mapCells, filesCells, capturePixels, isThere, bytesIn}
 
 -- ---- the lengths: refusal 8
 

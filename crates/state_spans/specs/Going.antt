@@ -5,14 +5,14 @@ use mathlib.Core.Bool.{Bool, true, _&&_, cond}
 use mathlib.Core.List.{List, [], _∷_}
 use mathlib.Core.Option.{Option, none, some}
 use lib.Dec.{leb}
-use lib.ListN.{length, take}
+use lib.ListN.{length, take, getD}
 use Rattle.bits.specs.Over.{part, over}
 use Rattle.pulses.specs.Answer.{Answer, refused, given}
 use Rattle.layout.specs.Block.{byte, isSet, held}
 use Rattle.parts.specs.Parts.{receivedAt, presetOnAt, frozenOnAt, packetAt, packetBytes, storeAt, storeBytes, presetAt, presetBytes, palettesAt, palettesBytes, mapAt, mapBytes, systemAt, systemBytes, filesAt, filesBytes, liveAt, captureBytes, frozenAt, tilesAt, tilesBytes, borderMapAt, borderMapBytes, borderPalettesAt, borderPalettesBytes}
 use Rattle.view.specs.Refusal.{refusing}
 use Rattle.state_cells.specs.Cells.{unpackCells}
-use Rattle.state_spans.specs.State.{State, fieldBytes, mapCells, filesCells, capturePixels, presentIn}
+use Rattle.state_spans.specs.State.{State, fieldBytes, mapCells, filesCells, capturePixels, stateLent, presentIn}
 
 -- ---- the state that a block is
 
@@ -106,6 +106,14 @@ laidAll s l =
     (laid (s .attributeFiles) (l .attributeFiles)) (laid (s .packet) (l .packet)) (laid (s .packets) (l .packets)) (laid (s .capture) (l .capture))
     (laid (s .frozenCapture) (l .frozenCapture)) (laid (s .preset) (l .preset)) (laid (s .borderTiles) (l .borderTiles)) (laid (s .borderMap) (l .borderMap))
     (laid (s .borderPalettes) (l .borderPalettes))
+
+-- what a caller holds then, as a state: the front of each span that is there, as long as that span is
+abbrev pub readBack : ℕ → Lent → State
+readBack present l =
+    stateLent (take fieldBytes (l .fields)) present (take palettesBytes (l .palettes)) (take mapCells (l .attributeMap)) (take systemBytes (l .systemPalettes))
+    (take filesCells (l .attributeFiles)) (take packetBytes (l .packet)) (take (16 * getD (l .fields) receivedAt 0) (l .packets)) (take capturePixels (l .capture))
+    (take capturePixels (l .frozenCapture)) (take presetBytes (l .preset)) (take tilesBytes (l .borderTiles)) (take borderMapBytes (l .borderMap))
+    (take borderPalettesBytes (l .borderPalettes))
 
 -- ---- the call: refusals 1, 21 to 26, 6; else which spans are there
 
