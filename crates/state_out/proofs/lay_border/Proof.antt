@@ -7,37 +7,37 @@ use Rattle.state_out.proofs.lay_border.Statement.{statement}
 use Rattle.state_out.proofs.lay_border.Tie as tie
 
 sub-put : tie.Need-sub-put
-sub-put c = search needs
+sub-put c = omega arith
 
 part-put-start : tie.Need-part-put-start
-part-put-start c = search needs
+part-put-start c = omega arith
 
 part-put-end : tie.Need-part-put-end
-part-put-end c = search needs
+part-put-end c = omega arith
 
 put-requires : tie.Need-put-requires
 put-requires c κs = simp (length-take, length-drop) (omega arith)
 
 sub-put-2 : tie.Need-sub-put-2
-sub-put-2 c = search needs
+sub-put-2 c = omega arith
 
 part-put-start-2 : tie.Need-part-put-start-2
-part-put-start-2 c = search needs
+part-put-start-2 c = omega arith
 
 part-put-end-2 : tie.Need-part-put-end-2
-part-put-end-2 c = search needs
+part-put-end-2 c = omega arith
 
 put-requires-2 : tie.Need-put-requires-2
 put-requires-2 c κs = simp (length-take, length-drop) (omega arith)
 
 sub-put-3 : tie.Need-sub-put-3
-sub-put-3 c = search needs
+sub-put-3 c = omega arith
 
 part-put-start-3 : tie.Need-part-put-start-3
-part-put-start-3 c = search needs
+part-put-start-3 c = omega arith
 
 part-put-end-3 : tie.Need-part-put-end-3
-part-put-end-3 c = search needs
+part-put-end-3 c = omega arith
 
 put-requires-3 : tie.Need-put-requires-3
 put-requires-3 c κs = simp (length-take, length-drop) (omega arith)

@@ -14,13 +14,13 @@ use Rattle.state_out.proofs.lay_captures.Statement.{statement}
 use Rattle.state_out.proofs.lay_captures.Tie as tie
 
 sub-unpack-cells : tie.Need-sub-unpack-cells
-sub-unpack-cells c = search needs
+sub-unpack-cells c = omega arith
 
 part-unpack-cells-start : tie.Need-part-unpack-cells-start
-part-unpack-cells-start c = search needs
+part-unpack-cells-start c = omega arith
 
 part-unpack-cells-end : tie.Need-part-unpack-cells-end
-part-unpack-cells-end c = search needs
+part-unpack-cells-end c = omega arith
 
 unpack-cells-requires : tie.Need-unpack-cells-requires
 unpack-cells-requires c κs = search needs
@@ -29,13 +29,13 @@ shared-slice-read-if1 : tie.Need-shared-slice-read-if1
 shared-slice-read-if1 c = search needs
 
 sub-unpack-cells-2 : tie.Need-sub-unpack-cells-2
-sub-unpack-cells-2 c = search needs
+sub-unpack-cells-2 c = omega arith
 
 part-unpack-cells-start-2 : tie.Need-part-unpack-cells-start-2
-part-unpack-cells-start-2 c = search needs
+part-unpack-cells-start-2 c = omega arith
 
 part-unpack-cells-end-2 : tie.Need-part-unpack-cells-end-2
-part-unpack-cells-end-2 c = search needs
+part-unpack-cells-end-2 c = omega arith
 
 unpack-cells-requires-2 : tie.Need-unpack-cells-requires-2
 unpack-cells-requires-2 c κs = simp (length-take, length-drop) (omega arith)

@@ -15,25 +15,25 @@ use Rattle.state_out.proofs.lay_front.Statement.{statement}
 use Rattle.state_out.proofs.lay_front.Tie as tie
 
 sub-put : tie.Need-sub-put
-sub-put c = search needs
+sub-put c = omega arith
 
 part-put-start : tie.Need-part-put-start
-part-put-start c = search needs
+part-put-start c = omega arith
 
 part-put-end : tie.Need-part-put-end
-part-put-end c = search needs
+part-put-end c = omega arith
 
 put-requires : tie.Need-put-requires
 put-requires c κs = search needs
 
 sub-put-2 : tie.Need-sub-put-2
-sub-put-2 c = search needs
+sub-put-2 c = omega arith
 
 part-put-start-2 : tie.Need-part-put-start-2
-part-put-start-2 c = search needs
+part-put-start-2 c = omega arith
 
 part-put-end-2 : tie.Need-part-put-end-2
-part-put-end-2 c = search needs
+part-put-end-2 c = omega arith
 
 put-requires-2 : tie.Need-put-requires-2
 put-requires-2 c κs = search needs
@@ -51,13 +51,13 @@ add-end : tie.Need-add-end
 add-end c = search needs
 
 sub-put-3 : tie.Need-sub-put-3
-sub-put-3 c = search needs
+sub-put-3 c = omega arith
 
 part-put-start-3 : tie.Need-part-put-start-3
-part-put-start-3 c = search needs
+part-put-start-3 c = omega arith
 
 part-put-end-3 : tie.Need-part-put-end-3
-part-put-end-3 c = search needs
+part-put-end-3 c = omega arith
 
 put-requires-3 : tie.Need-put-requires-3
 put-requires-3 c κs = search needs
@@ -66,13 +66,13 @@ shared-slice-read-if1 : tie.Need-shared-slice-read-if1
 shared-slice-read-if1 c = search needs
 
 sub-put-4 : tie.Need-sub-put-4
-sub-put-4 c = search needs
+sub-put-4 c = omega arith
 
 part-put-start-4 : tie.Need-part-put-start-4
-part-put-start-4 c = search needs
+part-put-start-4 c = omega arith
 
 part-put-end-4 : tie.Need-part-put-end-4
-part-put-end-4 c = search needs
+part-put-end-4 c = omega arith
 
 put-requires-4 : tie.Need-put-requires-4
 put-requires-4 c κs = search needs

@@ -12,49 +12,49 @@ use Rattle.state_out.proofs.lay_tables.Statement.{statement}
 use Rattle.state_out.proofs.lay_tables.Tie as tie
 
 sub-put : tie.Need-sub-put
-sub-put c = search needs
+sub-put c = omega arith
 
 part-put-start : tie.Need-part-put-start
-part-put-start c = search needs
+part-put-start c = omega arith
 
 part-put-end : tie.Need-part-put-end
-part-put-end c = search needs
+part-put-end c = omega arith
 
 put-requires : tie.Need-put-requires
 put-requires c κs = search needs
 
 sub-unpack-cells : tie.Need-sub-unpack-cells
-sub-unpack-cells c = search needs
+sub-unpack-cells c = omega arith
 
 part-unpack-cells-start : tie.Need-part-unpack-cells-start
-part-unpack-cells-start c = search needs
+part-unpack-cells-start c = omega arith
 
 part-unpack-cells-end : tie.Need-part-unpack-cells-end
-part-unpack-cells-end c = search needs
+part-unpack-cells-end c = omega arith
 
 unpack-cells-requires : tie.Need-unpack-cells-requires
 unpack-cells-requires c κs = search needs
 
 sub-put-2 : tie.Need-sub-put-2
-sub-put-2 c = search needs
+sub-put-2 c = omega arith
 
 part-put-start-2 : tie.Need-part-put-start-2
-part-put-start-2 c = search needs
+part-put-start-2 c = omega arith
 
 part-put-end-2 : tie.Need-part-put-end-2
-part-put-end-2 c = search needs
+part-put-end-2 c = omega arith
 
 put-requires-2 : tie.Need-put-requires-2
 put-requires-2 c κs = search needs
 
 sub-unpack-cells-2 : tie.Need-sub-unpack-cells-2
-sub-unpack-cells-2 c = search needs
+sub-unpack-cells-2 c = omega arith
 
 part-unpack-cells-start-2 : tie.Need-part-unpack-cells-start-2
-part-unpack-cells-start-2 c = search needs
+part-unpack-cells-start-2 c = omega arith
 
 part-unpack-cells-end-2 : tie.Need-part-unpack-cells-end-2
-part-unpack-cells-end-2 c = search needs
+part-unpack-cells-end-2 c = omega arith
 
 unpack-cells-requires-2 : tie.Need-unpack-cells-requires-2
 unpack-cells-requires-2 c κs = search needs
