@@ -95,7 +95,7 @@ fn damaged(block: &mut [u8], at: usize, value: u8)
     set(block, at, before);
 }
 
-fn tell(told: Refusal) {
+pub fn tell(told: Refusal) {
     io::print_decimal(STDOUT_FILENO, told.number() as u64);
     io::write_all(STDOUT_FILENO, b" at ");
     io::print_decimal(STDOUT_FILENO, told.offset() as u64);

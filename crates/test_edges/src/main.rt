@@ -1,9 +1,11 @@
 // The worked examples of RULES 10, run on the unit by its public calls: one module a topic. What is written is compared with the file
 // `stdout`.
 mod blocks;
+mod emulator;
 mod maps;
 mod replays;
 mod screens;
+mod spans;
 mod text;
 
 fn main() {
@@ -12,4 +14,5 @@ fn main() {
     maps::examples(&mut block);
     screens::examples(&mut block);
     blocks::examples(&mut block);
+    emulator::examples(&mut block);
 }
