@@ -1,7 +1,7 @@
 -- Over the calls: what `to_state` answers and leaves, handed to `from_state`, gives the same block. So does a state that was taken, but for what is
 -- forgotten (`Again` of the crate `state_spans`); and from the block that comes in all that is said of valid blocks reads on.
-use mathlib.Core.Path.{_≡_, refl, sym, ap, _∙_}
-use mathlib.Core.Bool.{true, false, Bool, cond}
+use mathlib.Core.Path.{_≡_, sym, ap, _∙_}
+use mathlib.Core.Bool.{true, Bool, cond}
 use mathlib.Core.List.{List}
 use Prim.Native.Nat.{ℕ, _<_}
 use lib.ListN.{length, getD}

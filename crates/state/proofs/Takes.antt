@@ -1,10 +1,9 @@
 -- A state that fits, as it is lent: what its front and its rules are, and that the parts written one after the other are the block that it gives.
-use mathlib.Core.Path.{_≡_, refl, sym, ap, _∙_}
+use mathlib.Core.Path.{_≡_, sym, ap, _∙_}
 use mathlib.Core.Bool.{Bool, true, _&&_, cond}
 use mathlib.Core.List.{List, [], _∷_}
 use mathlib.Core.Option.{none, some}
 use Prim.Native.Nat.{ℕ}
-use native.Mathlib.Omega.{arith}
 use lib.ListN.{length}
 use Rattle.bits.specs.Bit.{bitOf}
 use Rattle.bits.specs.Over.{over}
@@ -14,8 +13,8 @@ use Rattle.layout.specs.Block.{flag, isHeld, flat}
 use Rattle.parts.specs.Parts.{blockBytes, palettesAt, palettesBytes, mapAt, mapBytes, systemAt, systemBytes, filesAt, filesBytes, liveAt, captureBytes, frozenAt, tilesAt, tilesBytes, borderMapAt, borderMapBytes, borderPalettesAt, borderPalettesBytes}
 use Rattle.state_cells.specs.Cells.{packCells, paletteNumbers}
 use Rattle.state_cells.proofs.Celling.{length-packCells}
-use Rattle.state_spans.specs.State.{State, spanIf, stateLent, bytesIn}
-use Rattle.state_spans.specs.Coming.{capturesFit, fits, cellsFit, frontFrom, frozenFrom, borderFrom, borderOf, wholeBorder, blockFrom}
+use Rattle.state_spans.specs.State.{State, stateLent}
+use Rattle.state_spans.specs.Coming.{capturesFit, fits, cellsFit, frontFrom, frozenFrom, borderFrom, blockFrom}
 use Rattle.state_spans.proofs.Spans.{held-flag, some-bytes}
 use Rattle.state_spans.proofs.Fitted.{Front, front-fitted, Tables, tables-fitted, Captures, captures-fitted, Border, border-fitted}
 use Rattle.state_spans.proofs.Blocks.{front-true, tables-true, rest-true, front-sized, length-frozen, length-border, parts-written}

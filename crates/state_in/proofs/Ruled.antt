@@ -1,10 +1,10 @@
 -- V1 to V6 of the block that a state gives are told by its front: V1 to V5 ask of nothing else, and of V6 the rest holds, since the capture of a
 -- state is zeros where none is there.
 use mathlib.Core.Path.{_≡_, refl, sym, ap, _∙_}
-use mathlib.Core.Bool.{Bool, true, false, cond}
-use mathlib.Core.List.{List, [], _∷_, _++_}
+use mathlib.Core.Bool.{true, cond}
+use mathlib.Core.List.{List, [], _++_}
 use mathlib.Core.Option.{Option, none, some}
-use Prim.Native.Nat.{ℕ, zero, suc, _+_, _*_, _≤_, _<_}
+use Prim.Native.Nat.{ℕ, zero, suc, _+_, _≤_, _<_}
 use native.Mathlib.Omega.{arith}
 use lib.Dec.{lit<, lit≤, eqb}
 use lib.ListN.{length, take, drop, replicate, length-drop, List·getD-append}
@@ -12,8 +12,7 @@ use lib.Seq.{take-append-le, drop-append-le}
 use Rattle.bits.specs.Over.{part}
 use Rattle.receiver.specs.declared.Stage.{Stage}
 use Rattle.receiver.specs.declared.Stage.the-variants.{Idle, Receiving, Awaiting}
-use Rattle.broken.specs.Broken.{Asked, asked, zeroIn, zeroFrom, resting, coming, first, between, later, asksOf, asks1, asks2, asks3, asks4, asks5, asks6, byteOf, lower, lowest, brokenOr, firstOf, broken, brokenNumber}
-use Rattle.broken.proofs.Lowest.{lower-none}
+use Rattle.broken.specs.Broken.{asked, zeroIn, zeroFrom, resting, coming, first, between, later, asksOf, asks1, asks2, asks3, asks4, asks5, asks6, byteOf, lower, lowest, brokenOr, firstOf, broken, brokenNumber}
 use Rattle.layout.specs.Block.{byte, stageOf, isHeld, flat}
 use Rattle.layout.specs.Valid.{maskAllows}
 use Rattle.parts.specs.Parts.{maskAt, indexAt, padsAt, p15At, bothAt, stageAt, expectedAt, receivedAt, bitsAt, presetOnAt, countdownAt, kindAt, frozenOnAt, spareAt, spareBytes, packetAt, packetBytes, storeAt, storeBytes, presetAt, presetBytes, palettesAt, captureBytes, frozenAt}

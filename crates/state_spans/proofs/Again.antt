@@ -12,13 +12,13 @@ use lib.Seq.{take-at, take-take}
 use Rattle.bits.specs.Over.{part}
 use Rattle.bits.proofs.Tests.{and-left, and-right}
 use Rattle.broken.specs.Broken.{broken, brokenNumber}
-use Rattle.layout.specs.Block.{byte, isSet, isHeld, held, flat}
+use Rattle.layout.specs.Block.{byte, isSet, isHeld, held}
 use Rattle.layout.proofs.Cut.{heads, heads-eq}
-use Rattle.parts.specs.Parts.{blockBytes, maskAt, indexAt, padsAt, p15At, bothAt, stageAt, expectedAt, receivedAt, bitsAt, presetOnAt, countdownAt, kindAt, frozenOnAt, packetAt, packetBytes, storeAt, storeBytes, presetAt, presetBytes, palettesAt, palettesBytes, mapAt, mapBytes, systemAt, systemBytes, filesAt, filesBytes, liveAt, captureBytes, frozenAt, tilesAt, tilesBytes, borderMapAt, borderMapBytes, borderPalettesAt, borderPalettesBytes}
+use Rattle.parts.specs.Parts.{blockBytes, maskAt, indexAt, padsAt, p15At, bothAt, stageAt, expectedAt, receivedAt, bitsAt, presetOnAt, countdownAt, kindAt, frozenOnAt, packetAt, packetBytes, storeAt, storeBytes, presetAt, presetBytes, palettesAt, palettesBytes, mapAt, mapBytes, systemAt, systemBytes, filesAt, filesBytes, liveAt, captureBytes, frozenAt, tilesBytes, borderMapBytes, borderPalettesBytes}
 use Rattle.state_cells.specs.Cells.{unpackCells, paletteNumbers, lowPairs}
 use Rattle.state_cells.proofs.Celling.{unpack-pack, low-numbers}
 use Rattle.state_spans.specs.State.{State, fieldBytes, field, capturePixels, isThere, bytesIn}
-use Rattle.state_spans.specs.Coming.{fits, cellsFit, kindTaken, headerFrom, storeFrom, presetFrom, frontFrom, frozenFrom, borderFrom, borderOf, wholeBorder, blockFrom, fromAnswer}
+use Rattle.state_spans.specs.Coming.{fits, cellsFit, kindTaken, storeFrom, presetFrom, frontFrom, frozenFrom, borderFrom, borderOf, wholeBorder, blockFrom, fromAnswer}
 use Rattle.state_spans.specs.Going.{stateOf}
 use Rattle.state_spans.specs.Forgotten.{shadesKept, fieldsKept, presetKept, kept}
 use Rattle.state_spans.proofs.Spans.{lentIf}

@@ -1,19 +1,17 @@
 -- The block that a state gives is its parts, each of its size, and what the parts written one after the other come to.
-use mathlib.Core.Path.{_≡_, refl, sym, ap, _∙_, subst}
-use mathlib.Core.Bool.{Bool, true, false, _&&_, cond, false≢true}
+use mathlib.Core.Path.{_≡_, refl, sym, ap, _∙_}
+use mathlib.Core.Bool.{Bool, true, false, _&&_, cond}
 use mathlib.Core.List.{List, [], _∷_, _++_, map, append-assoc}
 use mathlib.Core.Option.{Option, none, some}
-use Prim.Native.Nat.{ℕ, _+_, _-_, _*_, _≤_, _<_}
+use Prim.Native.Nat.{ℕ, _+_, _-_, _≤_, _<_}
 use native.Mathlib.Omega.{arith}
-use borrow.Author.Tests.{le-leb}
 use lib.Dec.{lit<}
 use lib.ListN.{length, take, drop, getD, set, replicate, length-append, length-replicate}
 use Rattle.bits.specs.Over.{part, over}
 use Rattle.bits.proofs.Tests.{and-left, and-right}
 use Rattle.layout.specs.Block.{isSet, isHeld, flat}
 use Rattle.layout.proofs.Cut.{cut, flat-cut, sizes-cut, get-part, put-part, put-sized, length-flat}
-use Rattle.parts.specs.Parts.{blockBytes, receivedAt, presetOnAt, headerBytes, packetBytes, storeBytes, presetBytes, palettesAt, palettesBytes, mapAt, mapBytes, systemAt, systemBytes, filesAt, filesBytes, liveAt, captureBytes, frozenAt, tilesAt, tilesBytes, borderMapAt, borderMapBytes, borderPalettesAt, borderPalettesBytes, sizes, sum}
-use Rattle.state_cells.specs.Cells.{packCells}
+use Rattle.parts.specs.Parts.{blockBytes, presetOnAt, headerBytes, packetBytes, storeBytes, presetBytes, palettesAt, palettesBytes, mapAt, mapBytes, systemAt, systemBytes, filesAt, filesBytes, liveAt, captureBytes, frozenAt, tilesAt, tilesBytes, borderMapAt, borderMapBytes, borderPalettesAt, borderPalettesBytes, sizes, sum}
 use Rattle.state_cells.proofs.Celling.{length-packCells}
 use Rattle.state_spans.specs.State.{State, isThere, bytesIn}
 use Rattle.state_spans.specs.Coming.{frontFits, tablesFit, capturesFit, borderFits, fits, headerFrom, storeFrom, presetFrom, frontFrom, frozenFrom, borderFrom, borderOf, wholeBorder, partsFrom, blockFrom}

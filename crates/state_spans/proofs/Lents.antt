@@ -2,10 +2,10 @@
 -- the number tells which of them are there.
 use mathlib.Core.Path.{_≡_, refl, sym, ap, _∙_}
 use mathlib.Core.Bool.{Bool, true, false, cond, false≢true}
-use mathlib.Core.List.{List, [], _∷_, _++_}
-use mathlib.Core.Option.{Option, none, some}
+use mathlib.Core.List.{List, [], _∷_}
+use mathlib.Core.Option.{none, some}
 use Prim.Native.Nat.{ℕ, zero, suc, _+_, _*_, _/_, _%_, _^_, _≤_, _<_}
-use native.Mathlib.Nat.{div-one, zero-div, div-div-eq-div-mul, pow-succ', zero-add}
+use native.Mathlib.Nat.{div-one, zero-div, div-div-eq-div-mul, pow-succ'}
 use native.Mathlib.Omega.{arith}
 use lib.Dec.{lit<, lit≤, eqb}
 use lib.ListN.{length, take, drop, getD, List·getD-append}
@@ -19,7 +19,7 @@ use Rattle.layout.proofs.Saved.{long-part}
 use Rattle.parts.specs.Parts.{blockBytes, receivedAt, presetOnAt, frozenOnAt, packetAt, packetBytes, storeAt, presetAt, presetBytes, palettesAt, palettesBytes, mapAt, mapBytes, systemAt, systemBytes, filesAt, filesBytes, liveAt, captureBytes, frozenAt, tilesAt, tilesBytes, borderMapAt, borderMapBytes, borderPalettesAt, borderPalettesBytes}
 use Rattle.state_cells.specs.Cells.{unpackCells}
 use Rattle.state_cells.proofs.Celling.{length-unpackCells}
-use Rattle.state_spans.specs.State.{State, fieldBytes, mapCells, filesCells, capturePixels, isThere, presence, presentIn}
+use Rattle.state_spans.specs.State.{fieldBytes, mapCells, filesCells, capturePixels, isThere, presence, presentIn}
 use Rattle.state_spans.specs.Going.{Lent, stateOf, laid, laidAll, readBack}
 use Rattle.state_spans.proofs.Stored.{stored-in}
 

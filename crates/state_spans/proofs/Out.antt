@@ -10,9 +10,8 @@ use native.Mathlib.Nat.{zero-add}
 use native.Mathlib.Omega.{arith}
 use borrow.Author.Tests.{eq-eqb, ne-eqb, le-leb, eqb-true, leb-true}
 use lib.Dec.{lit<, lit≤, eqb, leb}
-use lib.ListN.{length, take, drop, getD, replicate, length-take, length-drop, take-append-drop}
-use lib.Pow.{areBytes}
-use lib.Seq.{drop-cons, take-take}
+use lib.ListN.{length, take, drop, getD, replicate, length-drop, take-append-drop}
+use lib.Seq.{take-take}
 use Rattle.bits.specs.Over.{part}
 use Rattle.bits.specs.Zero.{zeros}
 use Rattle.bits.proofs.Overs.{length-part, getD-part}
@@ -20,19 +19,19 @@ use Rattle.bits.proofs.Tests.{and-left, and-right, and-true, or-either}
 use Rattle.bits.proofs.Zeros.{zeros-replicate, replicate-zeros, zeros-at}
 use Rattle.broken.specs.Broken.{broken, brokenNumber}
 use Rattle.broken.specs.Told.{ruleHolds}
-use Rattle.broken.proofs.Numbers.{number-valid, Read, number-read}
+use Rattle.broken.proofs.Numbers.{number-valid, number-read}
 use Rattle.layout.specs.Block.{byte, isSet, isHeld, held, flat}
 use Rattle.layout.specs.Valid.{v4, v5, v6, maskAllows, valid, validParts, Valid}
 use Rattle.layout.proofs.Cut.{flat-cut, heads-eq}
 use Rattle.layout.proofs.Saved.{Clauses, clauses, two, long-part}
 use Rattle.parts.specs.Parts.{blockBytes, maskAt, indexAt, padsAt, p15At, bothAt, stageAt, expectedAt, receivedAt, bitsAt, presetOnAt, countdownAt, kindAt, frozenOnAt, spareAt, spareBytes, headerBytes, packetAt, packetBytes, storeAt, storeBytes, presetAt, presetBytes, palettesAt, palettesBytes, mapAt, mapBytes, systemAt, systemBytes, filesAt, filesBytes, liveAt, captureBytes, frozenAt, tilesAt, tilesBytes, borderMapAt, borderMapBytes, borderPalettesAt, borderPalettesBytes, sizes}
-use Rattle.state_cells.specs.Cells.{packCells, unpackCells, paletteNumbers}
+use Rattle.state_cells.specs.Cells.{packCells, unpackCells}
 use Rattle.state_cells.proofs.Celling.{length-unpackCells, pack-unpack, numbers-unpacked}
-use Rattle.state_spans.specs.State.{State, fieldBytes, mapCells, filesCells, capturePixels, isThere, bytesIn}
+use Rattle.state_spans.specs.State.{State, fieldBytes, mapCells, capturePixels, isThere, bytesIn}
 use Rattle.state_spans.specs.Coming.{has, mayHave, packetsFit, presetFits, frontFits, tablesFit, capturesFit, wholeBorder, borderFits, fits, cellsFit, kindTaken, headerFrom, storeFrom, presetFrom, frontFrom, frozenFrom, borderFrom, partsFrom, blockFrom, fromAnswer, fromBlock}
 use Rattle.state_spans.specs.Going.{stateOf}
 use Rattle.state_spans.proofs.Blocks.{flat-nested, block-long, thirteen-part}
-use Rattle.state_spans.proofs.Stored.{Stored, stored-in}
+use Rattle.state_spans.proofs.Stored.{stored-in}
 
 -- ---- what is taken is valid
 

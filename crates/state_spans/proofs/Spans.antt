@@ -1,16 +1,16 @@
 -- A span as it is lent, with the bit that tells whether it is there: what its length says, and the border's three together.
-use mathlib.Core.Path.{_≡_, refl, sym, _∙_}
+use mathlib.Core.Path.{_≡_, refl, _∙_}
 use mathlib.Core.Bool.{Bool, true, false, _&&_, cond, false≢true}
 use mathlib.Core.List.{List}
 use mathlib.Core.Option.{Option, none, some}
 use Prim.Native.Nat.{ℕ}
 use borrow.Author.Tests.{eqb-true}
 use lib.Dec.{eqb}
-use lib.ListN.{length, replicate}
+use lib.ListN.{length}
 use Rattle.layout.specs.Block.{flag, isHeld}
 use Rattle.parts.specs.Parts.{tilesBytes, borderMapBytes, borderPalettesBytes}
 use Rattle.state_spans.specs.State.{isThere, bytesIn}
-use Rattle.state_spans.specs.Coming.{has, mayHave, wholeBorder, borderFits, borderFrom}
+use Rattle.state_spans.specs.Coming.{has, mayHave, wholeBorder, borderFits}
 
 abbrev pub lentIf : Bool → List ℕ → Option (List ℕ)
 lentIf t l = cond t (some l) none

@@ -1,5 +1,5 @@
 -- The packets that are in, of a valid block: at most seven, and behind them the packet store is zeros.
-use mathlib.Core.Path.{_≡_, ap, _∙_}
+use mathlib.Core.Path.{_≡_}
 use mathlib.Core.Bool.{true}
 use mathlib.Core.List.{List}
 use mathlib.Core.Logic.{⊎-elim}

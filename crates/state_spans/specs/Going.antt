@@ -1,8 +1,8 @@
 -- A block that goes out: what it says as the fields and spans of a state, and what the call answers and leaves in each span that is lent.
 -- RULES 11.6; the Rust's `write_state` and `capture_memory`.
 use Prim.Native.Nat.{ℕ, _*_}
-use mathlib.Core.Bool.{Bool, true, _&&_, cond}
-use mathlib.Core.List.{List, [], _∷_}
+use mathlib.Core.Bool.{Bool, _&&_, cond}
+use mathlib.Core.List.{List}
 use mathlib.Core.Option.{Option, none, some}
 use lib.Dec.{leb}
 use lib.ListN.{length, take, getD}

@@ -1,7 +1,6 @@
 -- Each arm is the definition's.
 use borrow.Author.Tests.{eq-eqb, ne-eqb, le-leb, lt-leb}
 use Rattle.state_spans.specs.Coming.{kindTaken}
-use borrow.Author.Needs.{needs}
 use Rattle.state_in.proofs.kind_taken.Statement.{statement}
 use Rattle.state_in.proofs.kind_taken.Tie as tie
 

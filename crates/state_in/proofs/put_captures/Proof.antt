@@ -1,8 +1,6 @@
 -- The live capture, and the frozen one or zeros.
 use denote.Ref.{now}
-use mathlib.Core.List.{List}
 use mathlib.Core.Path.{ap, _∙_}
-use Prim.Native.Nat.{ℕ}
 use native.Mathlib.Omega.{arith}
 use lib.ListN.{replicate}
 use Rattle.bits.specs.Over.{over}

@@ -1,10 +1,9 @@
 -- One after the other, each as long as its part.
 use denote.Ref.{now}
-use mathlib.Core.List.{List}
 use mathlib.Core.Path.{ap, _∙_}
 use Prim.Native.Nat.{ℕ}
 use Rattle.bits.specs.Over.{over}
-use Rattle.parts.specs.Parts.{palettesAt, palettesBytes, mapAt, mapBytes, systemAt, systemBytes, filesAt, filesBytes}
+use Rattle.parts.specs.Parts.{palettesAt, mapAt, mapBytes, systemAt, filesAt, filesBytes}
 use Rattle.state_cells.specs.Cells.{packCells}
 use borrow.Author.Needs.{needs}
 use Rattle.state_in.proofs.put_tables.Statement.{statement}

@@ -1,7 +1,6 @@
 -- Either arm is the definition's.
 use borrow.Author.Tests.{eq-eqb, ne-eqb}
 use native.Mathlib.Omega.{arith}
-use borrow.Author.Needs.{needs}
 use Rattle.state_out.proofs.bit.Statement.{statement}
 use Rattle.state_out.proofs.bit.Tie as tie
 

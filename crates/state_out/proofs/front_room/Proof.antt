@@ -1,7 +1,6 @@
 -- One after the other.
 use borrow.Author.Tests.{lt-leb, le-leb}
 use Rattle.state_spans.specs.Going.{frontRoom}
-use borrow.Author.Needs.{needs}
 use Rattle.state_out.proofs.front_room.Statement.{statement}
 use Rattle.state_out.proofs.front_room.Tie as tie
 

@@ -43,13 +43,13 @@ put-requires-3 : tie.Need-put-requires-3
 put-requires-3 c κs = simp (length-take, length-drop) (omega arith)
 
 same-length : tie.Need-same-length
-same-length c = search needs
+same-length c = c .before .before .before .before .before .before .before .before .before .before .before .before .put .kept .0
 
 same-length-2 : tie.Need-same-length-2
-same-length-2 c = search needs
+same-length-2 c = c .before .before .before .before .before .before .before .put2 .kept .0
 
 same-length-3 : tie.Need-same-length-3
-same-length-3 c = search needs
+same-length-3 c = c .before .before .put3 .kept .0
 
 returns : tie.Need-returns
 unfolding stateOf laid

@@ -41,10 +41,10 @@ unpack-cells-requires-2 : tie.Need-unpack-cells-requires-2
 unpack-cells-requires-2 c κs = simp (length-take, length-drop) (omega arith)
 
 same-length : tie.Need-same-length
-same-length c = search needs
+same-length c = c .before .before .before .before .before .before .before .before .before .unpack-cells .kept .0
 
 same-length-2 : tie.Need-same-length-2
-same-length-2 c = search needs
+same-length-2 c = c .before .before .unpack-cells2 .kept .0
 
 returns : tie.Need-returns
 unfolding stateOf laid
@@ -55,7 +55,7 @@ returns c = let b = now (c .before .before .before .before .before .before .befo
 )
 
 same-length-3 : tie.Need-same-length-3
-same-length-3 c = search needs
+same-length-3 c = c .before .before .before .before .unpack-cells .kept .0
 
 returns-2 : tie.Need-returns-2
 unfolding stateOf laid

@@ -1,6 +1,5 @@
 -- One after the other, the packets that are in, and the preset with its flag.
 use denote.Ref.{now}
-use mathlib.Core.List.{List}
 use mathlib.Core.Option.{some}
 use mathlib.Core.Path.{_≡_, ap, _∙_}
 use Prim.Native.Nat.{ℕ, _+_, _-_, _*_}
@@ -78,16 +77,16 @@ put-requires-4 : tie.Need-put-requires-4
 put-requires-4 c κs = search needs
 
 same-length : tie.Need-same-length
-same-length c = search needs
+same-length c = c .before .before .before .before .before .before .before .before .before .before .before .before .before .before .before .before .before .before .before .before .before .put .kept .0
 
 same-length-2 : tie.Need-same-length-2
-same-length-2 c = search needs
+same-length-2 c = c .before .before .before .before .before .before .before .before .before .before .before .before .before .before .before .before .put2 .kept .0
 
 same-length-3 : tie.Need-same-length-3
-same-length-3 c = search needs
+same-length-3 c = c .before .before .before .before .before .before .before .before .before .put3 .kept .0
 
 same-length-4 : tie.Need-same-length-4
-same-length-4 c = search needs
+same-length-4 c = c .before .before .put4 .kept .0
 
 returns : tie.Need-returns
 unfolding stateOf laid held
@@ -97,13 +96,13 @@ returns c = let b = now (c .before .before .before .before .before .before .befo
     (c .before .before .before .before .before .before .before .before .before .before .before .before .before .before .before .before .before .before .before .before .before .put .ensures, (c .before .before .before .before .before .before .before .before .before .before .before .before .before .before .before .before .put2 .ensures, (packets, rw (eq-eqb _ _ (c .before .before .before .before .before .if1 .taken)) (c .before .before .put4 .ensures))))
 
 same-length-5 : tie.Need-same-length-5
-same-length-5 c = search needs
+same-length-5 c = c .before .before .before .before .before .before .before .before .before .before .before .before .before .before .before .before .put .kept .0
 
 same-length-6 : tie.Need-same-length-6
-same-length-6 c = search needs
+same-length-6 c = c .before .before .before .before .before .before .before .before .before .before .before .put2 .kept .0
 
 same-length-7 : tie.Need-same-length-7
-same-length-7 c = search needs
+same-length-7 c = c .before .before .before .before .put3 .kept .0
 
 returns-2 : tie.Need-returns-2
 unfolding stateOf laid held

@@ -6,7 +6,7 @@ use Rattle.bits.specs.Over.{part}
 use Rattle.layout.specs.Block.{byte, isSet, held}
 use Rattle.parts.specs.Parts.{presetOnAt, frozenOnAt, presetAt, presetBytes, frozenAt, captureBytes}
 use Rattle.state_cells.specs.Cells.{unpackCells}
-use Rattle.state_spans.specs.State.{isThere, presence}
+use Rattle.state_spans.specs.State.{isThere}
 use Rattle.state_spans.specs.Going.{stateOf}
 use Rattle.state_out.proofs.Laying.{present-sum}
 use borrow.Author.Needs.{needs}
