@@ -34,8 +34,8 @@ fn frozen(block: &[u8]) {
     row[spans::FROZEN + 3] = 3;
     let mut other = [0u8; parts::BLOCK];
     comes_in(&mut other, &row, spans::NEW + 128);
-    text::line(&other[0..13]);
-    text::line(&other[parts::FROZEN..parts::FROZEN + 2]);
+    text::line(part(&other, 0, 13));
+    text::line(part(&other, parts::FROZEN, parts::FROZEN + 2));
     let again = goes_out(&other);
     whether(same(&row, &again), b"the same state\n");
 }
@@ -46,15 +46,15 @@ fn border(block: &[u8]) {
     row[spans::TILES] = 0x55;
     let mut other = [0u8; parts::BLOCK];
     comes_in(&mut other, &row, spans::NEW);
-    text::line(&other[parts::TILES..parts::TILES + 2]);
+    text::line(part(&other, parts::TILES, parts::TILES + 2));
     comes_in(&mut other, &row, spans::NEW - 1024);
     whether(
-        all_zero(&other[parts::TILES..parts::BLOCK]),
+        all_zero(part(&other, parts::TILES, parts::BLOCK)),
         b"a border of zeros\n",
     );
     let again = goes_out(&other);
     whether(
-        all_zero(&again[spans::TILES..spans::ROW]),
+        all_zero(part(&again, spans::TILES, spans::ROW)),
         b"three spans of zeros\n",
     );
 }
@@ -65,11 +65,11 @@ fn forgotten(block: &[u8]) {
     let mut other = [0u8; parts::BLOCK];
     row[parts::KIND] = 3;
     comes_in(&mut other, &row, spans::NEW);
-    text::line(&other[0..13]);
+    text::line(part(&other, 0, 13));
     row[parts::KIND] = 0;
     row[spans::CAPTURE] = 0xFF;
     comes_in(&mut other, &row, spans::NEW);
-    text::line(&other[parts::LIVE..parts::LIVE + 2]);
+    text::line(part(&other, parts::LIVE, parts::LIVE + 2));
 }
 
 // No capture; a cell that is no palette number; an idle receiver with a data bit.
@@ -105,14 +105,14 @@ fn comes_in(block: &mut [u8], row: &[u8], present: u16) {
     ));
 }
 
-fn part(row: &[u8], from: usize, to: usize) -> &[u8] {
-    if to > row.len() {
-        return row;
+fn part(bytes: &[u8], from: usize, to: usize) -> &[u8] {
+    if to > bytes.len() {
+        return bytes;
     }
     if from > to {
-        return row;
+        return bytes;
     }
-    &row[from..to]
+    &bytes[from..to]
 }
 
 // A span that is missing is zeros in the row.
@@ -165,19 +165,19 @@ fn goes_out(block: &[u8]) -> [u8; spans::ROW] {
 
 // All thirteen, one behind the other.
 fn in_a_row(
-    fields: &[u8],
-    palettes: &[u8],
-    map: &[u8],
-    system: &[u8],
-    files: &[u8],
-    packet: &[u8],
-    packets: &[u8],
-    capture: &[u8],
-    frozen: &[u8],
-    preset: &[u8],
-    tiles: &[u8],
-    border_map: &[u8],
-    border_palettes: &[u8],
+    fields: &[u8; spans::PALETTES],
+    palettes: &[u8; parts::PALETTES_BYTES],
+    map: &[u8; 4 * parts::MAP_BYTES],
+    system: &[u8; parts::SYSTEM_BYTES],
+    files: &[u8; 4 * parts::FILES_BYTES],
+    packet: &[u8; parts::PACKET_BYTES],
+    packets: &[u8; parts::STORE_BYTES],
+    capture: &[u8; 4 * parts::CAPTURE_BYTES],
+    frozen: &[u8; 4 * parts::CAPTURE_BYTES],
+    preset: &[u8; parts::PRESET_BYTES],
+    tiles: &[u8; parts::TILES_BYTES],
+    border_map: &[u8; parts::BORDER_MAP_BYTES],
+    border_palettes: &[u8; parts::BORDER_PALETTES_BYTES],
 ) -> [u8; spans::ROW] {
     let mut row = [0u8; spans::ROW];
     lay(&mut row, 0, fields);
