@@ -1,6 +1,7 @@
--- Whether a command conforms: its code, its number of packets and the number that it announces are on Pan Docs' list. RULES 7.2;
--- Pan Docs, Command summary (packets), Attributes (the sets of ATTR_BLK and ATTR_LIN, the cells of ATTR_CHR).
-use Prim.Native.Nat.{ℕ}
+-- Whether a command conforms: its code, its number of packets and the number that it announces are on Pan Docs' list, and its packets hold
+-- all that it announces. RULES 7.2; Pan Docs, Command summary (packets), Attributes (the sets of ATTR_BLK and ATTR_LIN, the cells of
+-- ATTR_CHR, and where in a command they stand).
+use Prim.Native.Nat.{ℕ, _+_, _*_, _/_}
 use mathlib.Core.Path.{_≡_}
 use mathlib.Core.Bool.{Bool, true, _&&_, _||_, cond}
 use mathlib.Core.List.{List}
@@ -25,22 +26,40 @@ attrChr = 0x07
 abbrev pub lastCode : ℕ
 lastCode = 0x19
 
--- one packet, but for the three that announce how much they bring
-unfoldable pub mostPackets : ℕ → ℕ
-mostPackets code = cond (eqb code attrBlk || eqb code attrLin) 7 (cond (eqb code attrChr) 6 1)
+-- ---- the three that announce how many items they bring: sets, lines, cells
+
+unfoldable pub announces : ℕ → Bool
+announces code = eqb code attrBlk || (eqb code attrLin || eqb code attrChr)
+
+-- how many: byte 1, or for cells the word at byte 3
+unfoldable pub announced : ℕ → List ℕ → ℕ
+announced code c = cond (eqb code attrChr) (wordAt c 3) (getD c 1 0)
+
+-- how many there may be
+unfoldable pub mostItems : ℕ → ℕ
+mostItems code = cond (eqb code attrBlk) 18 (cond (eqb code attrLin) 110 360)
+
+-- the bytes of a command up to the end of its n items: from byte 2 on six a set, or one a line; from byte 6 on one for four cells
+unfoldable pub bytesFor : ℕ → ℕ → ℕ
+bytesFor code n = cond (eqb code attrBlk) (2 + 6 * n) (cond (eqb code attrLin) (2 + n) (6 + (n + 3) / 4))
 
 abbrev pub oneTo : ℕ → ℕ → Bool
 oneTo most n = leb 1 n && leb n most
 
--- what those three announce: sets, lines, cells
-unfoldable pub announces : ℕ → List ℕ → Bool
-announces code c =
-    cond (eqb code attrBlk) (oneTo 18 (getD c 1 0))
-    (cond (eqb code attrLin) (oneTo 110 (getD c 1 0))
-    (cond (eqb code attrChr) (oneTo 360 (wordAt c 3)) true))
+-- n items may be announced, and so many packets hold them
+unfoldable pub holds : ℕ → ℕ → ℕ → Bool
+holds code packets n = oneTo (mostItems code) n && leb (bytesFor code n) (16 * packets)
+
+-- ---- any command
+
+-- one packet, but for those three
+unfoldable pub mostPackets : ℕ → ℕ
+mostPackets code = cond (eqb code attrBlk || eqb code attrLin) 7 (cond (eqb code attrChr) 6 1)
 
 unfoldable pub conformsBy : ℕ → List ℕ → Bool
-conformsBy code c = leb code lastCode && (leb (packetsIn c) (mostPackets code) && announces code c)
+conformsBy code c =
+    leb code lastCode
+    && (leb (packetsIn c) (mostPackets code) && cond (announces code) (holds code (packetsIn c) (announced code c)) true)
 
 unfoldable pub conforms : List ℕ → Bool
 conforms c = conformsBy (codeOf (getD c 0 0)) c

@@ -18,7 +18,7 @@ returns c = record { answer = rw (none-malformed (c .before .before .before .arg
 conforms-requires : tie.Need-conforms-requires
 conforms-requires c κs =
     let f = some-formed (c .before .before .before .args .command .now) (λ z. c .if1 .left (c .before .packets-of .ensures ∙ z)) in
-    (omega (arith, f .0 .some, f .0 .whole), c .before .packets-of .ensures ∙ f .1)
+    (omega (arith, f .0 .some, f .0 .whole), (omega (arith, f .0 .few, c .before .packets-of .ensures, f .1), c .before .packets-of .ensures ∙ f .1))
 
 returns-2 : tie.Need-returns-2
 unfolding verdictAnswer judged

@@ -19,14 +19,29 @@ most-packets-requires c κs = search needs
 
 returns-2 : tie.Need-returns-2
 unfolding conforms conformsBy codeOf
-returns-2 c = rw (le-leb _ 0x19 (c .before .before .if1 .left), sym (c .before .before .before .before .before .pre .1), sym (c .before .most-packets .ensures), lt-leb _ _ (c .if2 .taken))
+returns-2 c = rw (le-leb _ 0x19 (c .before .before .if1 .left), sym (c .before .before .before .before .before .pre .1 .1), sym (c .before .most-packets .ensures), lt-leb _ _ (c .if2 .taken))
 
 announces-requires : tie.Need-announces-requires
 announces-requires c κs = search needs
 
+announced-requires : tie.Need-announced-requires
+announced-requires c κs = search needs
+
+holds-requires : tie.Need-holds-requires
+holds-requires c κs = search needs
+
 returns-3 : tie.Need-returns-3
 unfolding conforms conformsBy codeOf
-returns-3 c = c .announces .ensures ∙ rw (le-leb _ 0x19 (c .before .before .before .if1 .left), sym (c .before .before .before .before .before .before .pre .1), sym (c .before .before .most-packets .ensures), le-leb _ _ (c .before .if2 .left))
+returns-3 c =
+    rw
+    (le-leb _ 0x19 (c .before .before .before .before .before .before .if1 .left), sym (c .before .before .before .before .before .before .before .before .before .pre .1 .1), sym (c .before .before .before .before .before .most-packets .ensures), le-leb _ _ (c .before .before .before .before .if2 .left), sym (c .before .before .before .announces .ensures), c .before .before .if3 .taken, sym (c .before .announced .ensures))
+    (c .holds .ensures)
+
+returns-4 : tie.Need-returns-4
+unfolding conforms conformsBy codeOf
+returns-4 c =
+    rw
+    (le-leb _ 0x19 (c .before .before .before .before .if1 .left), sym (c .before .before .before .before .before .before .before .pre .1 .1), sym (c .before .before .before .most-packets .ensures), le-leb _ _ (c .before .before .if2 .left), sym (c .before .announces .ensures), c .if3 .left)
 
 pub conforms-spec : {M : Type 1} → statement M
 conforms-spec =
@@ -37,4 +52,7 @@ conforms-spec =
     most-packets-requires
     returns-2
     announces-requires
-    returns-3)
+    announced-requires
+    holds-requires
+    returns-3
+    returns-4)
