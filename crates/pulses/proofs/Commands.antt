@@ -34,6 +34,15 @@ formed c h =
       whole = eqb-true (length c) (16 * packetsIn c) (not-false _ (b .0));
     }
 
+pub well-formed : (c : List ℕ) (p : ℕ) → packetsIn c ≡ p → 0 < p → length c ≡ 16 * p → malformed c ≡ false
+unfolding malformed
+well-formed c p e z l =
+    rw (
+      ne-eqb (length c) 0 (λ y. omega arith),
+      eq-eqb (length c) (16 * packetsIn c) (l ∙ ap (λ (j : ℕ). 16 * j) (sym e)),
+      ne-eqb (packetsIn c) 0 (λ y. omega arith),
+    )
+
 -- ---- how the code finds out
 
 pub empty : (c : List ℕ) → length c ≡ 0 → 0 ≡ commandPackets c

@@ -1,5 +1,7 @@
 pub mod Commands
 pub mod Encodes
+pub mod Examples
+pub mod Fewest
 pub mod Front
 pub mod Held
 pub mod Packets
