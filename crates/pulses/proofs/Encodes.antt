@@ -11,6 +11,7 @@ use Rattle.bits.specs.Determined.{Once}
 use Rattle.pulses.specs.Answer.{refused, given, encodedAnswer, verdictAnswer}
 use Rattle.pulses.specs.Bytes.{packetsIn, malformed, commandPackets}
 use Rattle.pulses.specs.Encode.{pulsesOf, short, encoding, encoded, Encodes}
+use Rattle.pulses.specs.Verdict.{conforms, judged, Judges}
 use Rattle.pulses.specs.declared.Encoded.the-variants as E
 use Rattle.pulses.specs.declared.Conformance.the-variants as C
 use Rattle.pulses.proofs.Commands.{formed, none-malformed, some-formed}
@@ -56,6 +57,16 @@ encoded-pulses c o after n h = go (malformed c) refl (short c (length o)) (h .an
         let k : n ≡ 260 * packetsIn c = cc in
         let l : length (pulsesOf (packetsIn c) c) ≡ 260 * packetsIn c = length-pulses (packetsIn c) c (omega (arith, formed c e .whole)) in
         (refl, ap (take n) b ∙ take-at (pulsesOf (packetsIn c) c) (drop (260 * packetsIn c) o) n (l ∙ sym k))
+
+-- and where the verdict says that it conforms, it is one that the encoder takes, and it does
+pub verdict-conforms : (c : List ℕ) → Judges c C.Conforms → (malformed c ≡ false) × (conforms c ≡ true)
+unfolding verdictAnswer judged
+verdict-conforms c h = go (malformed c) (conforms c) (h .answer)
+  where
+    go : (t k : Bool) → given true ≡ cond t (refused 5) (given k) → (t ≡ false) × (k ≡ true)
+    go true k e = absurd (let z : _≡_ {A = ℕ} 0 1 = cc in omega arith)
+    go false true e = (refl, refl)
+    go false false e = absurd (let z : _≡_ {A = ℕ} 0 1 = cc in omega arith)
 
 -- ---- an answer is told by no other (two outcomes of a call are then equal: `unit`, proofs/Determined)
 
