@@ -15,7 +15,6 @@ use Rattle.pulses.specs.Verdict.{announces, announced, conforms, Judges}
 use Rattle.pulses.specs.declared.Encoded.the-variants as E
 use Rattle.pulses.specs.declared.Conformance.the-variants as C
 use Rattle.pulses.proofs.Encodes.{verdict-conforms}
-use Rattle.commands.specs.Command.{decode}
 use Rattle.layout.specs.Block.{load, save}
 use Rattle.layout.specs.Sgb.{Sgb}
 use Rattle.layout.specs.Valid.{valid}

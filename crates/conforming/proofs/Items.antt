@@ -1,9 +1,9 @@
 -- The rules carry out as many items as are announced, or as many as end inside the command. Of a command that conforms these are all, and of one
 -- whose packets don't hold what it announces they are fewer.
-use Prim.Native.Nat.{ℕ, _+_, _-_, _*_, _/_, _<_, _≤_, min}
+use Prim.Native.Nat.{ℕ, _+_, _-_, _*_, _/_, _<_, min}
 use native.Mathlib.Omega.{arith}
 use mathlib.Core.Path.{_≡_, refl, sym, ap, _∙_}
-use mathlib.Core.Bool.{Bool, true, false, _&&_, cond}
+use mathlib.Core.Bool.{true, false, _&&_}
 use mathlib.Core.List.{List, [], _∷_}
 use lib.Dec.{eqb, leb}
 use lib.ListN.{length, getD, replicate}
@@ -16,7 +16,6 @@ use Rattle.pulses.specs.Fewest.{announcing}
 use Rattle.pulses.specs.Verdict.{attrBlk, attrLin, attrChr, announces, announced, mostItems, bytesFor, oneTo, holds, mostPackets, conformsBy, conforms}
 use Rattle.pulses.proofs.Commands.{formed}
 use Rattle.pulses.proofs.Held.{same-leb, each-of-three}
-use Rattle.attribute_map.specs.Data.{steps}
 use Rattle.attribute_blocks.specs.Blk.{blkMap}
 use Rattle.attributes.specs.Lin.{linMap}
 use Rattle.attribute_cells.specs.Chr.{chrMap}

@@ -1,7 +1,7 @@
 -- The items of a command that announces them, one by one: what each does, and where in the command it stands. RULES 4.5, 4.6, 4.8 and 7.3;
 -- Pan Docs, Attributes. The laws are in proofs/Items and proofs/Calls.
 use Prim.Native.Nat.{ℕ, _+_, _-_, _*_, _/_, min}
-use mathlib.Core.Bool.{Bool, cond}
+use mathlib.Core.Bool.{cond}
 use mathlib.Core.List.{List}
 use lib.Dec.{eqb}
 use lib.ListN.{length, getD}

@@ -1,12 +1,12 @@
 -- The verdict worked: what each number of packets holds, and commands just at it and just past it (RULES 7.2 and 10.2).
 use mathlib.Core.Path.{_≡_, refl}
 use mathlib.Core.Bool.{Bool, true, false}
-use mathlib.Core.List.{List, [], _∷_, _++_, map}
+use mathlib.Core.List.{[], _∷_, _++_, map}
 use Prim.Native.Nat.{ℕ, _-_, _*_}
 use lib.ListN.{length, replicate}
 use Rattle.bits.specs.Word.{word, wordAt, lowByte, highByte}
 use Rattle.receiver.specs.Count.{codeOf, countOf}
-use Rattle.pulses.specs.Answer.{Answer, refused, given}
+use Rattle.pulses.specs.Answer.{Answer, given}
 use Rattle.pulses.specs.Bytes.{packetsIn, malformed}
 use Rattle.pulses.specs.Fewest.{fewest, announcing}
 use Rattle.pulses.specs.Verdict.{attrBlk, attrLin, attrChr, announces, announced, mostItems, bytesFor, holds, mostPackets, conformsBy, conforms, judged}

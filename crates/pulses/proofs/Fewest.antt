@@ -1,6 +1,6 @@
 -- The verdict of a command that announces items, by its packets alone: it conforms exactly if the number may be announced and the packets are
 -- from the fewest that hold so many up to the most that there may be. Each number that may be announced has such commands.
-use mathlib.Core.Path.{_≡_, refl, sym, ap, ap₂, _∙_, subst}
+use mathlib.Core.Path.{_≡_, refl, sym, _∙_}
 use mathlib.Core.Bool.{Bool, true, false, _&&_, cond}
 use mathlib.Core.List.{List, [], _∷_}
 use Prim.Native.Nat.{ℕ, zero, suc, _+_, _-_, _*_, _/_, _%_, _<_, _≤_}
@@ -11,11 +11,14 @@ use borrow.Author.Tests.{leb-true, le-leb, lt-leb}
 use Rattle.bits.proofs.Tests.{and-both, and-true}
 use Rattle.bits.specs.Word.{word, wordAt, lowByte, highByte}
 use Rattle.receiver.specs.Count.{codeOf, countOf}
-use Rattle.pulses.specs.Answer.{given}
-use Rattle.pulses.specs.Bytes.{Bytes, packetsIn, malformed}
+use Rattle.pulses.specs.Answer.{verdictAnswer}
+use Rattle.pulses.specs.Bytes.{Bytes, packetsIn}
 use Rattle.pulses.specs.Fewest.{fewest, announcing, Sends}
-use Rattle.pulses.specs.Verdict.{attrChr, lastCode, announces, announced, mostItems, bytesFor, oneTo, holds, mostPackets, conformsBy, conforms, judged}
+use Rattle.pulses.specs.Verdict.{attrChr, lastCode, announces, announced, mostItems, bytesFor, oneTo, holds, mostPackets, conformsBy, conforms, judged, Judges}
+use Rattle.pulses.specs.declared.Conformance.{Conformance}
+use Rattle.pulses.specs.declared.Conformance.the-variants as C
 use Rattle.pulses.proofs.Commands.{well-formed}
+use Rattle.pulses.proofs.Encodes.{verdict-conforms, one-verdict}
 use Rattle.pulses.proofs.Held.{same-leb, each-of-three}
 
 -- ---- the fewest packets
@@ -24,7 +27,7 @@ held-fewest : (code n p : ℕ) → leb (bytesFor code n) (16 * p) ≡ leb (fewes
 unfolding fewest
 held-fewest code n p = same-leb (bytesFor code n) (16 * p) (fewest code n) p (λ k. omega arith) (λ k. omega arith)
 
--- so many may be announced exactly if the most packets hold them: 18 sets and 110 lines fill seven, 360 cells six
+-- so many may be announced exactly if the most packets hold them: seven hold 18 sets or 110 lines, six 360 cells, and no more
 pub most-held : (code n : ℕ) → announces code ≡ true → leb n (mostItems code) ≡ leb (fewest code n) (mostPackets code)
 unfolding mostItems fewest bytesFor mostPackets
 most-held code n h =
@@ -52,9 +55,10 @@ module _ (c : List ℕ) (code p n : ℕ) (h : announces code ≡ true) (e : code
       turned false true false = refl
       turned false false d = refl
 
-  pub none-fewer : conforms c ≡ true → fewest code n ≤ p
-  none-fewer k =
-      let r = and-both (oneTo (mostItems code) n) _ (sym conforms-exactly ∙ k) in
+  -- so where `verdict` says that it conforms it has the fewest packets, or more
+  pub none-fewer : Judges c C.Conforms → fewest code n ≤ p
+  none-fewer says =
+      let r = and-both (oneTo (mostItems code) n) _ (sym conforms-exactly ∙ verdict-conforms c says .1) in
       leb-true (fewest code n) p (and-both (leb (fewest code n) p) _ (r .1) .0)
 
 -- ---- a command for each number
@@ -116,9 +120,9 @@ module _ (code p n : ℕ) (h : announces code ≡ true) where
       record {
         bytes = bytes-announcing d t m b;
         ofCode = e;
-        long = q;
+        inPackets = q;
         number = a;
-        right = rw (well-formed c p q y l, v);
+        conforming = rw (well-formed c p q y l, v);
       }
 
 length-announcing : (code p n r : ℕ) → length (announcing code p n (replicate r 0)) ≡ length (announcing code 0 0 []) + r
@@ -146,3 +150,8 @@ each-number code n h z m =
     let s = some-packet code n h in
     any-items code p n h (replicate r 0) (zeros r) (length-announcing code p n r ∙ omega (arith, s .0, s .1)) z m (omega arith)
     (leb-true p (mostPackets code) (sym (most-held code n h) ∙ le-leb n (mostItems code) m))
+
+-- and of it `verdict` can say nothing else
+pub sends-conforms : (code p n : ℕ) (c : List ℕ) → Sends code p n c → (r : Conformance) → Judges c r → r ≡ C.Conforms
+unfolding verdictAnswer
+sends-conforms code p n c s r says = one-verdict r C.Conforms (says .answer ∙ s .conforming)

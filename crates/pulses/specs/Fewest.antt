@@ -24,6 +24,6 @@ announcing code packets n d = (8 * code + packets) ∷ cond (eqb code attrChr) (
 pub record Sends (code packets n : ℕ) (c : List ℕ) : Type 0 where
   pub bytes : Bytes c
   pub ofCode : codeOf (getD c 0 0) ≡ code
-  pub long : packetsIn c ≡ packets
+  pub inPackets : packetsIn c ≡ packets
   pub number : announced code c ≡ n
-  pub right : judged c ≡ given true
+  pub conforming : judged c ≡ given true

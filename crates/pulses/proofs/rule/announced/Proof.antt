@@ -1,6 +1,5 @@
 -- The one test is the definition's, and the number is read where it reads it.
 use borrow.Author.Needs.{needs}
-use mathlib.Core.Path.{_∙_}
 use borrow.Author.Tests.{eq-eqb, ne-eqb}
 use Rattle.bits.specs.Word.{wordAt}
 use Rattle.pulses.specs.Verdict.{announced}

@@ -1,6 +1,5 @@
 -- The tests are the definition's, and a shift by two is a quarter.
 use borrow.Author.Needs.{needs}
-use native.Mathlib.Omega.{arith}
 use borrow.Author.Tests.{eq-eqb, ne-eqb}
 use Rattle.pulses.specs.Verdict.{bytesFor}
 use Rattle.pulses.proofs.rule.bytes_for.Statement.{statement}

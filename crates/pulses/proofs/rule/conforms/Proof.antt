@@ -1,6 +1,6 @@
 -- The tests are the definition's, one after the other.
 use borrow.Author.Needs.{needs}
-use mathlib.Core.Path.{_∙_, sym}
+use mathlib.Core.Path.{sym}
 use borrow.Author.Tests.{le-leb, lt-leb}
 use Rattle.receiver.specs.Count.{codeOf}
 use Rattle.pulses.specs.Verdict.{conformsBy, conforms}
