@@ -29,9 +29,9 @@ extern "C" {
 /* ---- the version of this header; sporedrift_version tells that of the library which is linked */
 
 #define SPOREDRIFT_VERSION_MAJOR 0
-#define SPOREDRIFT_VERSION_MINOR 3
+#define SPOREDRIFT_VERSION_MINOR 4
 #define SPOREDRIFT_VERSION_PATCH 0
-#define SPOREDRIFT_VERSION "0.3.0"
+#define SPOREDRIFT_VERSION "0.4.0"
 #define SPOREDRIFT_VERSION_NUMBER (SPOREDRIFT_VERSION_MAJOR * 65536 + SPOREDRIFT_VERSION_MINOR * 256 + SPOREDRIFT_VERSION_PATCH)
 
 /* The value is the library's version, made as SPOREDRIFT_VERSION_NUMBER is. Refuses nothing. */
@@ -449,7 +449,23 @@ static inline const uint8_t *sporedrift_tile_part(const uint8_t *tiles, size_t t
  * number. Refusals 5, 6. */
 uint32_t sporedrift_encode(const uint8_t *command, size_t command_len, uint8_t *out, size_t out_len);
 
-/* Whether a command conforms to Pan Docs' list: 1 or 0. Refusal 5. */
+/* Whether a command conforms to Pan Docs: 1 or 0. Refusal 5. It conforms exactly if all of this holds (docs/RULES.md, 7.2):
+ * - Its code is at most 19 hex.
+ * - It has one packet; but ATTR_BLK (04) and ATTR_LIN (05) may have up to 7, and ATTR_CHR (07) up to 6.
+ * - These three announce how many items they bring: 1 to 18 sets in byte 1, 1 to 110 lines in byte 1, 1 to 360 cells in the word at
+ *   byte 3, the low byte first.
+ * - Their packets, of 16 bytes, hold all that they announce: n sets take 2 + 6 * n bytes, n lines 2 + n, n cells 6 + (n + 3) / 4. This
+ *   is new in 0.4: before, 18 sets in one packet conformed, though it holds two. So many may be announced at the most:
+ *
+ *       packets             1    2    3    4    5    6    7
+ *       sets  (ATTR_BLK)    2    5    7   10   13   15   18
+ *       lines (ATTR_LIN)   14   30   46   62   78   94  110
+ *       cells (ATTR_CHR)   40  104  168  232  296  360    -
+ *
+ * The fewest packets for n items are those of the first column with n or more; n items conform in these, and in more up to 7, 7 and 6.
+ * Where a command of the three conforms, the unit carries it out to its last item (docs/RULES.md, 7.3): nothing that it announces is
+ * dropped for want of data. Both are proved. The unit does not look at the verdict: whatever number is announced, it takes items as far
+ * as the data reaches. */
 uint32_t sporedrift_verdict(const uint8_t *command, size_t command_len);
 
 /* ---- logs */

@@ -27,7 +27,7 @@ from ._picture import HEIGHT, WIDTH, BorderMapEntry, Picture, Rgb555
 from ._state import STATE_SPANS, State
 from ._unit import BLOCK, COMMAND, PACKET, PACKET_WRITES, SCREEN, MaskMode, Played, Transfer, Unit, encode, verdict
 
-__version__ = "0.3.0"
+__version__ = "0.4.0"
 
 __all__ = [
     "BLOCK",

@@ -260,6 +260,23 @@ def encode(command: BytesLike) -> bytes:
 
 
 def verdict(command: BytesLike) -> bool:
-    """Whether a command conforms to Pan Docs' list of commands. Refusal 5 if its length is not what its first byte tells."""
+    """Whether a command conforms to Pan Docs. Refusal 5 if its length is not what its first byte tells.
+
+    It conforms exactly if its code is at most 19 hex; it has one packet, but ATTR_BLK (04) and ATTR_LIN (05) up to 7 and ATTR_CHR (07) up to
+    6; and these three announce, sets or lines in byte 1, cells in the word at byte 3, at least one item and no more than their packets hold:
+
+        packets             1    2    3    4    5    6    7
+        sets  (ATTR_BLK)    2    5    7   10   13   15   18
+        lines (ATTR_LIN)   14   30   46   62   78   94  110
+        cells (ATTR_CHR)   40  104  168  232  296  360    -
+
+    What the packets hold is asked since 0.4. A `Unit` does not look at the verdict: whatever number is announced, it takes items as far as the
+    data reaches. Where a command conforms, these are all that it announces.
+
+        >>> sporedrift.verdict(bytes([0x21, 18]) + bytes(14))  # eighteen sets in one packet
+        False
+        >>> sporedrift.verdict(bytes([0x27, 18]) + bytes(110))  # in seven
+        True
+    """
     lent = octets(command)
     return value(_calls.verdict(lent, len(lent))) == 1

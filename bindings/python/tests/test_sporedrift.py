@@ -1,5 +1,5 @@
-"""The module: the sample's plate, the refusals, states of the emulator, writes in a row against writes one by one, lines, pictures, and how
-the library is found.
+"""The module: the sample's plate, the refusals, which commands conform, states of the emulator, writes in a row against writes one by one,
+lines, pictures, and how the library is found.
 
     python3 -m unittest discover -s bindings/python/tests
 """
@@ -172,6 +172,92 @@ class Units(Case):
         self.assertEqual(b"".join(unit.row(y).tobytes() for y in range(224)), unit.picture().words.tobytes())
         self.assertTrue(verdict(packet(0xB9, 0x02)))
         self.assertFalse(verdict(packet(0xD1)))
+
+
+class Verdicts(Case):
+    # ATTR_BLK, ATTR_LIN and ATTR_CHR, and the most sets, lines and cells that 1 to 7 packets may announce
+    HELD = {
+        0x04: (2, 5, 7, 10, 13, 15, 18),
+        0x05: (14, 30, 46, 62, 78, 94, 110),
+        0x07: (40, 104, 168, 232, 296, 360, 0),
+    }
+
+    def announcing(self, code, packets, items, rest=0):
+        """A command of so many packets that announces so many items; each of its other bytes is `rest`."""
+        command = bytearray([rest]) * (16 * packets)
+        command[0] = code << 3 | packets
+        if code == 0x07:
+            command[3:5] = items.to_bytes(2, "little")
+        else:
+            command[1] = items
+        return command
+
+    def coloured(self, command):
+        """How many cells of the attribute map have palette 3 after a command; all others must have palette 0."""
+        unit = Unit.post_boot()
+        self.assertEqual(unit.play_all(encode(command)), [bytes(command)])
+        cells = list(unit.to_state().attribute_map)
+        self.assertEqual(cells.count(0) + cells.count(3), 360)
+        return cells.count(3)
+
+    def test_eighteen_sets(self):
+        """In one packet and in seven; the unit doesn't look at the verdict, and takes the sets that are there."""
+        self.assertFalse(verdict(self.announcing(0x04, 1, 18)))
+        self.assertTrue(verdict(self.announcing(0x04, 7, 18)))
+        for packets, held in enumerate(self.HELD[0x04], 1):
+            command = self.announcing(0x04, packets, 18)
+            for x in range(held):
+                command[2 + 6 * x : 8 + 6 * x] = bytes([0x02, 0x0C, x, 0, x, 0])
+            self.assertEqual(len(command), 16 * packets)
+            self.assertEqual(verdict(command), held == 18)
+            self.assertEqual(self.coloured(command), held)
+
+    def test_what_packets_hold_and_one_more(self):
+        for code, row in self.HELD.items():
+            for packets, held in enumerate(row, 1):
+                for rest in (0x00, 0xFF, 0xA5):
+                    for items, due in ((0, False), (1, held > 0), (held, held > 0), (held + 1, False), (255, held >= 255)):
+                        with self.subTest(code=code, packets=packets, items=items, rest=rest):
+                            self.assertIs(verdict(self.announcing(code, packets, items, rest)), due)
+        # of a word the high byte counts too, and seven packets of cells are one too many
+        for items in (256, 257, 360, 361, 0xFF01, 0xFFFF):
+            self.assertFalse(verdict(self.announcing(0x07, 2, items)))
+        for items in (1, 40, 360):
+            self.assertFalse(verdict(self.announcing(0x07, 7, items)))
+
+    def test_the_fewest_packets_and_more(self):
+        for code, row in self.HELD.items():
+            for items in range(1, max(row) + 1):
+                told = [verdict(self.announcing(code, packets, items)) for packets in range(1, 8)]
+                self.assertEqual(told, [items <= held for held in row])
+
+    def test_what_conforms_is_carried_out_to_its_last_item(self):
+        for packets, held in enumerate(self.HELD[0x07], 1):
+            for items in {1, held // 2, held - 1, held} if held else ():
+                # every cell takes palette 3, row by row from the first on, and there are data for more
+                command = self.announcing(0x07, packets, items, 0xFF)
+                command[1] = command[2] = command[5] = 0
+                self.assertTrue(verdict(command))
+                self.assertEqual(self.coloured(command), items)
+        for packets, held in enumerate(self.HELD[0x05], 1):
+            for items in {1, held // 2, held - 1, held}:
+                # a column that isn't there, again and again, and column 0 as the last
+                command = self.announcing(0x05, packets, items, 0x1F)
+                command[1 + items] = 0x60
+                self.assertTrue(verdict(command))
+                self.assertEqual(self.coloured(command), 18)
+
+    def test_other_commands_announce_nothing(self):
+        for first in range(256):
+            code, packets = first >> 3, first & 7 if first < 0xF0 else 1
+            if code in self.HELD:
+                continue
+            for rest in (b"\x00", b"\xFF"):
+                command = (bytes([first]) + rest * 127)[: 16 * packets]
+                if packets == 0:
+                    self.refused(5, verdict, command)
+                else:
+                    self.assertIs(verdict(command), packets == 1 and code <= 0x19)
 
 
 class Refusals(Case):

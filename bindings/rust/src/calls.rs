@@ -446,7 +446,7 @@ pub fn encode(command: &[u8], out: &mut [u8]) -> Result<usize, Refusal> {
     value(answer).map(|writes| writes as usize)
 }
 
-/// Whether a command conforms. Refusal 5.
+/// Whether a command conforms, as [`verdict`](crate::verdict) tells it. Refusal 5.
 pub fn verdict(command: &[u8]) -> Result<bool, Refusal> {
     value(unsafe { c::sporedrift_verdict(command.as_ptr(), command.len()) }).map(|told| told == 1)
 }

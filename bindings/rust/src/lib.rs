@@ -94,7 +94,23 @@ pub fn encode(command: &[u8]) -> Result<Vec<u8>, Refusal> {
     Ok(writes)
 }
 
-/// Whether a command conforms to Pan Docs' list of commands. [`Refusal::Command`] if its length is not what its first byte tells.
+/// Whether a command conforms to Pan Docs. [`Refusal::Command`] if its length is not what its first byte tells.
+///
+/// It conforms exactly if all of this holds:
+///
+/// - its code is at most 19 hex;
+/// - it has one packet; but ATTR_BLK (04) and ATTR_LIN (05) may have up to 7, and ATTR_CHR (07) up to 6;
+/// - these three announce how many items they bring, sets or lines in byte 1, cells in the word at byte 3: at least one, and no more than
+///   their packets hold.
+///
+/// | packets | 1 | 2 | 3 | 4 | 5 | 6 | 7 |
+/// |---|---|---|---|---|---|---|---|
+/// | sets (ATTR_BLK) | 2 | 5 | 7 | 10 | 13 | 15 | 18 |
+/// | lines (ATTR_LIN) | 14 | 30 | 46 | 62 | 78 | 94 | 110 |
+/// | cells (ATTR_CHR) | 40 | 104 | 168 | 232 | 296 | 360 | - |
+///
+/// What the packets hold is asked since 0.4. A [`Unit`] does not look at the verdict: whatever number is announced, it takes items as far
+/// as the data reaches. Where a command conforms, these are all that it announces.
 ///
 /// ```
 /// let mut command = [0; 16];
@@ -102,6 +118,13 @@ pub fn encode(command: &[u8]) -> Result<Vec<u8>, Refusal> {
 /// assert_eq!(sporedrift::verdict(&command), Ok(true));
 /// command[0] = 0xD1; // no command of Pan Docs
 /// assert_eq!(sporedrift::verdict(&command), Ok(false));
+///
+/// // ATTR_BLK with eighteen sets: one packet holds two of them, seven hold all
+/// let mut sets = [0; 112];
+/// sets[..2].copy_from_slice(&[0x21, 18]);
+/// assert_eq!(sporedrift::verdict(&sets[..16]), Ok(false));
+/// sets[0] = 0x27;
+/// assert_eq!(sporedrift::verdict(&sets), Ok(true));
 /// ```
 pub fn verdict(command: &[u8]) -> Result<bool, Refusal> {
     calls::verdict(command)
