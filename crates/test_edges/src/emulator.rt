@@ -105,7 +105,7 @@ fn comes_in(block: &mut [u8], row: &[u8], present: u16) {
     ));
 }
 
-fn part(bytes: &[u8], from: usize, to: usize) -> &[u8] {
+pub fn part(bytes: &[u8], from: usize, to: usize) -> &[u8] {
     if to > bytes.len() {
         return bytes;
     }

@@ -7,6 +7,7 @@ mod replays;
 mod screens;
 mod spans;
 mod text;
+mod verdicts;
 
 fn main() {
     let mut block = [0u8; parts::BLOCK];
@@ -15,4 +16,5 @@ fn main() {
     screens::examples(&mut block);
     blocks::examples(&mut block);
     emulator::examples(&mut block);
+    verdicts::examples(&mut block);
 }

@@ -43,7 +43,7 @@ fn rows(map: &[u8])
 }
 
 // A row's five packed bytes.
-fn row(packed: &[u8])
+pub fn row(packed: &[u8])
     requires { ⌜ length (now packed) ≡ 5 ⌝ }
 {
     let mut line = [b'\n'; 21];

@@ -35,12 +35,12 @@ pub fn command(d: &[u8], block: &mut [u8])
     replay(&pulses, block);
 }
 
-// A command of one packet by writes in a row: how many were taken, the command, and the block's first 13 bytes.
-fn played(d: &[u8], block: &mut [u8])
+// A command of one packet or two by writes in a row: how many were taken, the command, and the block's first 13 bytes.
+pub fn played(d: &[u8], block: &mut [u8])
     requires { ⌜ length (now block) ≡ blockBytes ⌝ }
 {
     unit::post_boot(block);
-    let mut pulses = [0u8; 260];
+    let mut pulses = [0u8; 2 * 260];
     pulses::encode(d, &mut pulses);
     let mut command = [0u8; parts::STORE_BYTES];
     let told = unit::play(block, &pulses, &mut command);
