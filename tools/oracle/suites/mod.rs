@@ -31,6 +31,7 @@ suites! {
     states 4 * 6,
     oracle 2 * 3,
     leaves 1 * 1,
+    verdict 4 * 1,
     commands 4 * 10,
     picture 4 * 15,
     views 4 * 5,

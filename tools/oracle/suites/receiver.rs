@@ -1,6 +1,6 @@
 //! The receiver write by write against the Rust: its answers, and every byte of the lines, the receiver, the packet and the store.
 //! Every six writes from edge states, random streams, and each code with each packet count, sent by the port's own encoder. The
-//! encoder and the verdict, which the Rust lacks, are held to RULES 7.
+//! encoder, which the Rust lacks, is held to RULES 7.1.
 
 use crate::block::*;
 use crate::counts::count;
@@ -31,7 +31,6 @@ unsafe extern "C" {
     // store of 112 bytes; fast is 0 or 1
     fn probe_log(fast: u8, log: *const u8, len: usize, store: *mut u8, store_len: usize) -> usize;
     fn probe_encode(command: *const u8, len: usize, out: *mut u8, out_len: usize) -> usize;
-    fn probe_verdict(command: *const u8, len: usize) -> u8;
 }
 
 pub fn run(ctx: &mut Ctx) {
@@ -40,7 +39,6 @@ pub fn run(ctx: &mut Ctx) {
     logs(ctx);
     codes(ctx);
     refusals(ctx);
-    verdicts(ctx);
 }
 
 /// The block's bytes as far as a write reads or changes them.
@@ -242,43 +240,6 @@ fn refusals(ctx: &mut Ctx) {
                 let kept = if n < 260 { 0 } else { n };
                 ctx.check(out[kept..].iter().all(|b| *b == 0xEE), what);
             }
-            let told = unsafe { probe_verdict(command.as_ptr(), command.len()) };
-            let formed = len > 0 && packets > 0 && len == 16 * packets;
-            ctx.check(formed != (told == 5), || format!("verdict of {len} from {first:02X}"));
         }
     }
-}
-
-/// RULES 7.2: the code, the number of packets, and the number of sets, lines or cells that is announced.
-fn verdicts(ctx: &mut Ctx) {
-    for first in 0..=255u8 {
-        let (code, packets) = (first / 8, valid::count(first));
-        for (d1, d3, d4) in numbers() {
-            let mut command = vec![0; 16 * usize::from(packets)];
-            if command.is_empty() {
-                continue;
-            }
-            command[0] = first;
-            [command[1], command[3], command[4]] = [d1, d3, d4];
-            let word = u16::from_le_bytes([d3, d4]);
-            let right = match code {
-                0x04 => (1..=18).contains(&d1),
-                0x05 => (1..=110).contains(&d1),
-                0x07 => packets <= 6 && (1..=360).contains(&word),
-                _ => code <= 0x19 && packets == 1,
-            };
-            let told = unsafe { probe_verdict(command.as_ptr(), command.len()) };
-            let what = || format!("verdict of {first:02X}, d1 {d1}, word {word}");
-            ctx.same(what, told, u8::from(right));
-        }
-    }
-}
-
-/// Announced numbers at and around each edge: d1, and the two bytes of the word at d3.
-fn numbers() -> Vec<(u8, u8, u8)> {
-    let d1 = [0, 1, 2, 17, 18, 19, 109, 110, 111, 255];
-    let words = [0u16, 1, 2, 255, 256, 359, 360, 361, 65_535];
-    d1.iter()
-        .flat_map(|a| words.map(|w| (*a, w.to_le_bytes()[0], w.to_le_bytes()[1])))
-        .collect()
 }
