@@ -13,7 +13,7 @@ use Rattle.bits.specs.Word.{word, wordAt, lowByte, highByte}
 use Rattle.receiver.specs.Count.{codeOf}
 use Rattle.pulses.specs.Bytes.{packetsIn, malformed}
 use Rattle.pulses.specs.Fewest.{announcing}
-use Rattle.pulses.specs.Verdict.{attrBlk, attrLin, attrChr, announces, announced, mostItems, bytesFor, oneTo, holds, mostPackets, conformsBy, conforms}
+use Rattle.pulses.specs.Verdict.{attrBlk, attrLin, attrChr, announces, announced, mostItems, bytesFor, oneTo, brings, mostPackets, conformsBy, conforms}
 use Rattle.pulses.proofs.Commands.{formed}
 use Rattle.pulses.proofs.Held.{same-leb, each-of-three}
 use Rattle.attribute_blocks.specs.Blk.{blkMap}
@@ -67,7 +67,7 @@ module _ (c : List ℕ) (code : ℕ) (t : malformed c ≡ false) (h : announces 
   pub conforms-as-carried :
       conforms c
       ≡ (leb (packetsIn c) (mostPackets code) && (oneTo (mostItems code) (announced code c) && eqb (itemsCarried code c) (announced code c)))
-  unfolding conforms conformsBy holds itemsCarried
+  unfolding conforms conformsBy brings itemsCarried
   conforms-as-carried =
       let f = formed c t in
       let m : ℕ = announced code c in

@@ -9,7 +9,7 @@ use Rattle.receiver.specs.Count.{codeOf, countOf}
 use Rattle.pulses.specs.Answer.{Answer, given}
 use Rattle.pulses.specs.Bytes.{packetsIn, malformed}
 use Rattle.pulses.specs.Fewest.{fewest, announcing}
-use Rattle.pulses.specs.Verdict.{attrBlk, attrLin, attrChr, announces, announced, mostItems, bytesFor, holds, mostPackets, conformsBy, conforms, judged}
+use Rattle.pulses.specs.Verdict.{attrBlk, attrLin, attrChr, announces, announced, mostItems, bytesFor, brings, mostPackets, conformsBy, conforms, judged}
 
 -- the most items that 1, 2, .. packets hold, and one more each time but the last
 pub sets-in-packets :
@@ -35,7 +35,7 @@ abbrev told : ℕ → ℕ → ℕ → Answer Bool
 told code p n = judged (announcing code p n (replicate (16 * p - length (announcing code p n [])) 0))
 
 pub eighteen-sets : (told attrBlk 1 18 ≡ given false) × (told attrBlk 7 18 ≡ given true)
-unfolding announcing lowByte highByte word wordAt codeOf countOf packetsIn malformed announces announced mostItems bytesFor holds mostPackets conformsBy conforms judged
+unfolding announcing lowByte highByte word wordAt codeOf countOf packetsIn malformed announces announced mostItems bytesFor brings mostPackets conformsBy conforms judged
 eighteen-sets = (refl, refl)
 
 -- just at what the packets hold, and just past it; none at all; and cells in seven packets
@@ -45,5 +45,5 @@ pub at-and-past :
     ++ (told attrChr 1 40 ∷ told attrChr 1 41 ∷ told attrChr 6 360 ∷ told attrChr 6 361 ∷ told attrChr 7 360 ∷ [])
     ≡ map given
     (true ∷ false ∷ true ∷ false ∷ false ∷ false ∷ true ∷ false ∷ true ∷ false ∷ true ∷ false ∷ true ∷ false ∷ false ∷ [])
-unfolding announcing lowByte highByte word wordAt codeOf countOf packetsIn malformed announces announced mostItems bytesFor holds mostPackets conformsBy conforms judged
+unfolding announcing lowByte highByte word wordAt codeOf countOf packetsIn malformed announces announced mostItems bytesFor brings mostPackets conformsBy conforms judged
 at-and-past = refl

@@ -14,7 +14,7 @@ use Rattle.receiver.specs.Count.{codeOf, countOf}
 use Rattle.pulses.specs.Answer.{verdictAnswer}
 use Rattle.pulses.specs.Bytes.{Bytes, packetsIn}
 use Rattle.pulses.specs.Fewest.{fewest, announcing, Sends}
-use Rattle.pulses.specs.Verdict.{attrChr, lastCode, announces, announced, mostItems, bytesFor, oneTo, holds, mostPackets, conformsBy, conforms, judged, Judges}
+use Rattle.pulses.specs.Verdict.{attrChr, lastCode, announces, announced, mostItems, bytesFor, oneTo, brings, mostPackets, conformsBy, conforms, judged, Judges}
 use Rattle.pulses.specs.declared.Conformance.{Conformance}
 use Rattle.pulses.specs.declared.Conformance.the-variants as C
 use Rattle.pulses.proofs.Commands.{well-formed}
@@ -42,7 +42,7 @@ most-held code n h =
 -- a command of p packets that announces n items
 module _ (c : List ℕ) (code p n : ℕ) (h : announces code ≡ true) (e : codeOf (getD c 0 0) ≡ code) (f : packetsIn c ≡ p) (g : announced code c ≡ n) where
   pub conforms-exactly : conforms c ≡ (oneTo (mostItems code) n && (leb (fewest code n) p && leb p (mostPackets code)))
-  unfolding conforms conformsBy holds
+  unfolding conforms conformsBy brings
   conforms-exactly =
       let l : leb code lastCode ≡ true = each-of-three (λ (k : ℕ). leb k lastCode ≡ true) refl refl refl code h in
       rw (e, l, f, h, g, held-fewest code n p) (turned (leb p (mostPackets code)) (oneTo (mostItems code) n) (leb (fewest code n) p))

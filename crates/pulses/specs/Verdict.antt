@@ -46,9 +46,9 @@ bytesFor code n = cond (eqb code attrBlk) (2 + 6 * n) (cond (eqb code attrLin) (
 abbrev pub oneTo : ℕ → ℕ → Bool
 oneTo most n = leb 1 n && leb n most
 
--- n items may be announced, and so many packets hold them
-unfoldable pub holds : ℕ → ℕ → ℕ → Bool
-holds code packets n = oneTo (mostItems code) n && leb (bytesFor code n) (16 * packets)
+-- n items may be announced, and so many packets hold them all
+unfoldable pub brings : ℕ → ℕ → ℕ → Bool
+brings code packets n = oneTo (mostItems code) n && leb (bytesFor code n) (16 * packets)
 
 -- ---- any command
 
@@ -59,7 +59,7 @@ mostPackets code = cond (eqb code attrBlk || eqb code attrLin) 7 (cond (eqb code
 unfoldable pub conformsBy : ℕ → List ℕ → Bool
 conformsBy code c =
     leb code lastCode
-    && (leb (packetsIn c) (mostPackets code) && cond (announces code) (holds code (packetsIn c) (announced code c)) true)
+    && (leb (packetsIn c) (mostPackets code) && cond (announces code) (brings code (packetsIn c) (announced code c)) true)
 
 unfoldable pub conforms : List ℕ → Bool
 conforms c = conformsBy (codeOf (getD c 0 0)) c

@@ -3,7 +3,7 @@ ghost use mathlib.Core.Path.{_≡_};
 ghost use Prim.Native.Nat.{_≤_, _<_};
 ghost use lib.ListN.{length};
 ghost use Rattle.pulses.specs.Bytes.{packetsIn};
-ghost use Rattle.pulses.specs.Verdict.{mostPackets, announces, announced, mostItems, bytesFor, holds, oneTo, conforms};
+ghost use Rattle.pulses.specs.Verdict.{mostPackets, announces, announced, mostItems, bytesFor, brings, oneTo, conforms};
 use bits::wide;
 use bits::word;
 
@@ -28,7 +28,7 @@ pub fn conforms(command: &[u8], n: usize) -> bool
         return false;
     }
     if announces(code) {
-        holds(code, n, announced(code, command))
+        brings(code, n, announced(code, command))
     } else {
         true
     }
@@ -73,9 +73,9 @@ pub fn announced(code: u8, command: &[u8]) -> usize
 }
 
 // Whether so many items may be announced, and so many packets hold them.
-pub fn holds(code: u8, packets: usize, items: usize) -> bool
+pub fn brings(code: u8, packets: usize, items: usize) -> bool
     requires { ⌜ packets < 8 ⌝ }
-    ensures { λ r. ⌜ r ≡ holds code packets items ⌝ }
+    ensures { λ r. ⌜ r ≡ brings code packets items ⌝ }
 {
     if one_to(items, most_items(code)) {
         bytes_for(code, items) <= 16 * packets

@@ -27,15 +27,15 @@ announces-requires c κs = search needs
 announced-requires : tie.Need-announced-requires
 announced-requires c κs = search needs
 
-holds-requires : tie.Need-holds-requires
-holds-requires c κs = search needs
+brings-requires : tie.Need-brings-requires
+brings-requires c κs = search needs
 
 returns-3 : tie.Need-returns-3
 unfolding conforms conformsBy codeOf
 returns-3 c =
     rw
     (le-leb _ 0x19 (c .before .before .before .before .before .before .if1 .left), sym (c .before .before .before .before .before .before .before .before .before .pre .1 .1), sym (c .before .before .before .before .before .most-packets .ensures), le-leb _ _ (c .before .before .before .before .if2 .left), sym (c .before .before .before .announces .ensures), c .before .before .if3 .taken, sym (c .before .announced .ensures))
-    (c .holds .ensures)
+    (c .brings .ensures)
 
 returns-4 : tie.Need-returns-4
 unfolding conforms conformsBy codeOf
@@ -53,6 +53,6 @@ conforms-spec =
     returns-2
     announces-requires
     announced-requires
-    holds-requires
+    brings-requires
     returns-3
     returns-4)

@@ -1,10 +1,10 @@
 -- Behind the first test there are at most 360 items; the second is the definition's.
 use borrow.Author.Needs.{needs}
 use mathlib.Core.Path.{sym}
-use Rattle.pulses.specs.Verdict.{holds}
+use Rattle.pulses.specs.Verdict.{brings}
 use Rattle.pulses.proofs.Held.{few-items}
-use Rattle.pulses.proofs.rule.holds.Statement.{statement}
-use Rattle.pulses.proofs.rule.holds.Tie as tie
+use Rattle.pulses.proofs.rule.brings.Statement.{statement}
+use Rattle.pulses.proofs.rule.brings.Tie as tie
 
 most-items-requires : tie.Need-most-items-requires
 most-items-requires c κs = search needs
@@ -19,15 +19,15 @@ mul-result : tie.Need-mul-result
 mul-result c = search needs
 
 returns : tie.Need-returns
-unfolding holds
+unfolding brings
 returns c = rw (sym (c .before .before .before .most-items .ensures), sym (c .before .before .one-to .ensures), c .before .if1 .taken, sym (c .bytes-for .ensures))
 
 returns-2 : tie.Need-returns-2
-unfolding holds
+unfolding brings
 returns-2 c = rw (sym (c .before .before .most-items .ensures), sym (c .before .one-to .ensures), c .if1 .left)
 
-pub holds-spec : {M : Type 1} → statement M
-holds-spec =
+pub brings-spec : {M : Type 1} → statement M
+brings-spec =
     tie.close
     (tie.spec
     most-items-requires
