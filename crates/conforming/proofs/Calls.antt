@@ -24,13 +24,13 @@ use Rattle.unit.specs.Together.{Performed, performed}
 use Rattle.unit.specs.Trip.{risesIn, sentTo, returned}
 use Rattle.unit.proofs.Allowed.{Allowed}
 use Rattle.unit.proofs.Trip.{calls-round-trip, contracts-round-trip, sent-loads}
-use Rattle.conforming.specs.Items.{itemsDone, sentItems}
+use Rattle.conforming.specs.Items.{itemsDone, afterItems, sentItems}
 use Rattle.conforming.proofs.Items.{all-carried}
 
 -- the rules for it, sent to any unit
 sent-all : (u : Sgb) (c : List ℕ) → malformed c ≡ false → conforms c ≡ true → announces (codeOf (getD c 0 0)) ≡ true
     → sentTo u c ≡ sentItems u c (announced (codeOf (getD c 0 0)) c)
-unfolding sentTo sentItems withPads
+unfolding sentTo sentItems
 sent-all u c t k h =
     all-carried c (codeOf (getD c 0 0)) t h refl k
     (record { port = resting; game = withPads (rises (risesIn c) (u .game .index) (u .game .pads)) (u .game .pads) (u .game); snes = u .snes })
@@ -59,7 +59,7 @@ module _ (b buffer c : List ℕ) (k : valid b ≡ true) (room : storeBytes ≤ l
   pub contracts-map : (out after : List ℕ) (n : ℕ) → Encodes c out (E.Writes n) after
       → (o : Performed) → Allowed b buffer (map write (take n after)) o
       → load (o .block) .game .map ≡ itemsDone (codeOf (getD c 0 0)) c (announced (codeOf (getD c 0 0)) c) (load b .game .map)
-  unfolding sentItems withMap
+  unfolding sentItems afterItems withMap withPads
   contracts-map out after n e o a =
       let v = verdict-conforms c says in
       ap (λ (q : Performed). load (q .block) .game .map) (contracts-round-trip b buffer c k room bytes free out after n e o a)

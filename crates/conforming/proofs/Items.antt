@@ -5,10 +5,10 @@ use native.Mathlib.Omega.{arith}
 use mathlib.Core.Path.{_≡_, refl, sym, ap, _∙_}
 use mathlib.Core.Bool.{true, false, _&&_}
 use mathlib.Core.List.{List, [], _∷_}
-use lib.Dec.{eqb, leb}
+use lib.Dec.{eqb, ltb, leb}
 use lib.ListN.{length, getD, replicate}
-use borrow.Author.Tests.{eq-eqb, eqb-true, le-leb, leb-true}
-use Rattle.bits.proofs.Tests.{and-both, same-test}
+use borrow.Author.Tests.{eq-eqb, eqb-true, lt-ltb, ltb-true, le-leb, leb-true}
+use Rattle.bits.proofs.Tests.{and-both, same-test, same-ltb}
 use Rattle.bits.specs.Word.{word, wordAt, lowByte, highByte}
 use Rattle.receiver.specs.Count.{codeOf}
 use Rattle.pulses.specs.Bytes.{packetsIn, malformed}
@@ -22,23 +22,15 @@ use Rattle.attribute_cells.specs.Chr.{chrMap}
 use Rattle.commands.specs.Command.{find, decode}
 use Rattle.commands.specs.Maps as maps
 use Rattle.layout.specs.Sgb.{Sgb}
-use Rattle.rules.specs.Carry.{withMap, plainly, carriedGame, carriedSnes, carried}
-use Rattle.conforming.specs.Items.{item, itemEnd, itemsInside, itemsCarried, itemsDone}
+use Rattle.rules.specs.Carry.{plainly, carriedGame, carriedSnes, carried}
+use Rattle.conforming.specs.Items.{item, itemEnd, itemsInside, itemsCarried, itemsDone, afterItems}
 
 -- what the rules do with a command of one of the three codes
-carried-items : (code : ℕ) → announces code ≡ true → (c : List ℕ) → codeOf (getD c 0 0) ≡ code → (u : Sgb)
-    → carried (decode c) u
-    ≡ record {
-      port = u .port;
-      game = withMap (itemsDone code c (itemsCarried code c) (u .game .map)) (u .game);
-      snes = u .snes;
-    }
-unfolding carried carriedGame carriedSnes plainly decode find maps.attrBlk maps.attrLin maps.attrChr blkMap linMap chrMap announced item itemsInside itemsCarried itemsDone
+pub carried-items : (code : ℕ) → announces code ≡ true → (c : List ℕ) → codeOf (getD c 0 0) ≡ code → (u : Sgb)
+    → carried (decode c) u ≡ afterItems code c (itemsCarried code c) u
+unfolding carried carriedGame carriedSnes plainly decode find maps.attrBlk maps.attrLin maps.attrChr blkMap linMap chrMap announced item itemsInside itemsCarried itemsDone afterItems
 carried-items =
-    each-of-three
-    (λ (k : ℕ). (c : List ℕ) → codeOf (getD c 0 0) ≡ k → (u : Sgb)
-    → carried (decode c) u
-    ≡ record { port = u .port; game = withMap (itemsDone k c (itemsCarried k c) (u .game .map)) (u .game); snes = u .snes })
+    each-of-three (λ (k : ℕ). (c : List ℕ) → codeOf (getD c 0 0) ≡ k → (u : Sgb) → carried (decode c) u ≡ afterItems k c (itemsCarried k c) u)
     (λ c e u. rw e) (λ c e u. rw e) (λ c e u. rw e)
 
 -- ---- how many end inside
@@ -54,11 +46,14 @@ inside-exactly code h c n p l z =
     (same-leb (6 + (n + 3) / 4) (16 * p) n (4 * (length c - 6)) (λ j. omega arith) (λ j. omega arith))
     code h
 
--- item i ends inside exactly if there are more than i that do
-end-inside : (code : ℕ) → announces code ≡ true → (c : List ℕ) (i : ℕ) → i < itemsInside code c → itemEnd code i < length c
+pub inside-ends : (code : ℕ) → announces code ≡ true → (c : List ℕ) (i : ℕ) → ltb i (itemsInside code c) ≡ ltb (itemEnd code i) (length c)
 unfolding itemEnd itemsInside
-end-inside code h c i =
-    each-of-three (λ (k : ℕ). i < itemsInside k c → itemEnd k i < length c) (λ j. omega arith) (λ j. omega arith) (λ j. omega arith) code h
+inside-ends code h c i =
+    each-of-three (λ (k : ℕ). ltb i (itemsInside k c) ≡ ltb (itemEnd k i) (length c))
+    (same-ltb i ((length c - 2) / 6) (7 + 6 * i) (length c) (λ j. omega arith) (λ j. omega arith))
+    (same-ltb i (length c - 2) (2 + i) (length c) (λ j. omega arith) (λ j. omega arith))
+    (same-ltb i (4 * (length c - 6)) (6 + i / 4) (length c) (λ j. omega arith) (λ j. omega arith))
+    code h
 
 -- ---- a command that conforms
 
@@ -85,15 +80,13 @@ module _ (c : List ℕ) (code : ℕ) (t : malformed c ≡ false) (h : announces 
   -- no byte of an item that it announces is wanting
   pub items-inside : conforms c ≡ true → (i : ℕ) → i < announced code c → itemEnd code i < length c
   unfolding itemsCarried
-  items-inside k i j = end-inside code h c i (omega (arith, all-counted k))
+  items-inside k i j =
+      let l : i < itemsInside code c = omega (arith, all-counted k) in
+      ltb-true (itemEnd code i) (length c) (sym (inside-ends code h c i) ∙ lt-ltb i (itemsInside code c) l)
 
   -- and all of them are carried out, in order
-  pub all-carried : conforms c ≡ true → (u : Sgb)
-      → carried (decode c) u
-      ≡ record { port = u .port; game = withMap (itemsDone code c (announced code c) (u .game .map)) (u .game); snes = u .snes }
-  all-carried k u =
-      carried-items code h c e u
-      ∙ ap (λ (j : ℕ). record { port = u .port; game = withMap (itemsDone code c j (u .game .map)) (u .game); snes = u .snes }) (all-counted k)
+  pub all-carried : conforms c ≡ true → (u : Sgb) → carried (decode c) u ≡ afterItems code c (announced code c) u
+  all-carried k u = carried-items code h c e u ∙ ap (λ (j : ℕ). afterItems code c j u) (all-counted k)
 
 -- ---- worked: eighteen sets in one packet and in seven, fifteen lines and forty-one cells in one
 

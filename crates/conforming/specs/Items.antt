@@ -29,7 +29,7 @@ item code c i =
 unfoldable pub itemEnd : ℕ → ℕ → ℕ
 itemEnd code i = cond (eqb code attrBlk) (7 + 6 * i) (cond (eqb code attrLin) (2 + i) (6 + i / 4))
 
--- how many items end inside the command, whatever it announces
+-- how many items end inside the command, whatever it announces: item i does exactly if i is below it (`inside-ends`)
 unfoldable pub itemsInside : ℕ → List ℕ → ℕ
 itemsInside code c = cond (eqb code attrBlk) ((length c - 2) / 6) (cond (eqb code attrLin) (length c - 2) (4 * (length c - 6)))
 
@@ -41,13 +41,13 @@ itemsCarried code c = min (announced code c) (itemsInside code c)
 unfoldable pub itemsDone : ℕ → List ℕ → ℕ → List ℕ → List ℕ
 itemsDone code c n map = pack (steps (item code c) n (unpack map))
 
--- the unit after a command that was sent to it and of which n items were carried out: as after any other (`sentTo` of the crate `unit`)
--- the port is at rest and the joypad index has moved by the command's rises
+-- a unit after them: of it the attribute map alone has changed
+unfoldable pub afterItems : ℕ → List ℕ → ℕ → Sgb → Sgb
+afterItems code c n u = record { port = u .port; game = withMap (itemsDone code c n (u .game .map)) (u .game); snes = u .snes }
+
+-- the unit after a command was sent to it, and n of its items were carried out: as after any command (`sentTo` of the crate `unit`) the port is
+-- at rest, and the joypad index has moved by the command's rises
 unfoldable pub sentItems : Sgb → List ℕ → ℕ → Sgb
-sentItems u c n = record {
-  port = resting;
-  game =
-      withMap (itemsDone (codeOf (getD c 0 0)) c n (u .game .map))
-      (withPads (rises (risesIn c) (u .game .index) (u .game .pads)) (u .game .pads) (u .game));
-  snes = u .snes;
-}
+sentItems u c n =
+    afterItems (codeOf (getD c 0 0)) c n
+    (record { port = resting; game = withPads (rises (risesIn c) (u .game .index) (u .game .pads)) (u .game .pads) (u .game); snes = u .snes })
