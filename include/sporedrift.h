@@ -449,7 +449,7 @@ static inline const uint8_t *sporedrift_tile_part(const uint8_t *tiles, size_t t
  * number. Refusals 5, 6. */
 uint32_t sporedrift_encode(const uint8_t *command, size_t command_len, uint8_t *out, size_t out_len);
 
-/* Whether a command conforms to Pan Docs: 1 or 0. Refusal 5. It conforms exactly if all of this holds (docs/RULES.md, 7.2):
+/* Whether a command conforms to Pan Docs: 1 or 0. Refusal 5. It conforms exactly if all of this is so (docs/RULES.md, 7.2):
  * - Its code is at most 19 hex.
  * - It has one packet; but ATTR_BLK (04) and ATTR_LIN (05) may have up to 7, and ATTR_CHR (07) up to 6.
  * - These three announce how many items they bring: 1 to 18 sets in byte 1, 1 to 110 lines in byte 1, 1 to 360 cells in the word at
@@ -464,8 +464,8 @@ uint32_t sporedrift_encode(const uint8_t *command, size_t command_len, uint8_t *
  *
  * The fewest packets for n items are those of the first column with n or more; n items conform in these, and in more up to 7, 7 and 6.
  * Where a command of the three conforms, the unit carries it out to its last item (docs/RULES.md, 7.3): nothing that it announces is
- * dropped for want of data. Both are proved. The unit does not look at the verdict: whatever number is announced, it takes items as far
- * as the data reaches. */
+ * dropped for want of data. Both are proved. The unit does not look at the verdict: it takes the items that are announced, whatever their
+ * number, as far as the data reaches. */
 uint32_t sporedrift_verdict(const uint8_t *command, size_t command_len);
 
 /* ---- logs */

@@ -270,8 +270,8 @@ def verdict(command: BytesLike) -> bool:
         lines (ATTR_LIN)   14   30   46   62   78   94  110
         cells (ATTR_CHR)   40  104  168  232  296  360    -
 
-    What the packets hold is asked since 0.4. A `Unit` does not look at the verdict: whatever number is announced, it takes items as far as the
-    data reaches. Where a command conforms, these are all that it announces.
+    What the packets hold is asked since 0.4. A `Unit` does not look at the verdict: it takes the items that are announced, whatever their
+    number, as far as the data reaches. Where a command conforms, these are all of them.
 
         >>> sporedrift.verdict(bytes([0x21, 18]) + bytes(14))  # eighteen sets in one packet
         False

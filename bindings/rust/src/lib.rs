@@ -96,7 +96,7 @@ pub fn encode(command: &[u8]) -> Result<Vec<u8>, Refusal> {
 
 /// Whether a command conforms to Pan Docs. [`Refusal::Command`] if its length is not what its first byte tells.
 ///
-/// It conforms exactly if all of this holds:
+/// It conforms exactly if all of this is so:
 ///
 /// - its code is at most 19 hex;
 /// - it has one packet; but ATTR_BLK (04) and ATTR_LIN (05) may have up to 7, and ATTR_CHR (07) up to 6;
@@ -109,8 +109,8 @@ pub fn encode(command: &[u8]) -> Result<Vec<u8>, Refusal> {
 /// | lines (ATTR_LIN) | 14 | 30 | 46 | 62 | 78 | 94 | 110 |
 /// | cells (ATTR_CHR) | 40 | 104 | 168 | 232 | 296 | 360 | - |
 ///
-/// What the packets hold is asked since 0.4. A [`Unit`] does not look at the verdict: whatever number is announced, it takes items as far
-/// as the data reaches. Where a command conforms, these are all that it announces.
+/// What the packets hold is asked since 0.4. A [`Unit`] does not look at the verdict: it takes the items that are announced, whatever their
+/// number, as far as the data reaches. Where a command conforms, these are all of them.
 ///
 /// ```
 /// let mut command = [0; 16];

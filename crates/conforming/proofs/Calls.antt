@@ -1,5 +1,5 @@
--- The same over the public calls: a command of which `verdict` says that it conforms, turned into writes by `encode` and handed to
--- `write_joypad` one by one, from a valid block that holds no earlier packet and with room for a command.
+-- What conforms is carried out whole, over the public calls: a command of which `verdict` says that it conforms, turned into writes by
+-- `encode` and handed to `write_joypad` one by one, from a valid block that holds no earlier packet and with room for a command.
 use Prim.Native.Nat.{ℕ, _≤_}
 use mathlib.Core.Path.{_≡_, refl, ap, _∙_}
 use mathlib.Core.Bool.{true, false}

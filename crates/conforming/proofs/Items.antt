@@ -58,7 +58,7 @@ inside-ends code h c i =
 -- ---- a command that conforms
 
 module _ (c : List ℕ) (code : ℕ) (t : malformed c ≡ false) (h : announces code ≡ true) (e : codeOf (getD c 0 0) ≡ code) where
-  -- the verdict by what the rules do: packets and number may be, and as many items are carried out as are announced
+  -- the verdict by what the rules do: the numbers of packets and of items are allowed, and as many items are carried out as are announced
   pub conforms-as-carried :
       conforms c
       ≡ (leb (packetsIn c) (mostPackets code) && (oneTo (mostItems code) (announced code c) && eqb (itemsCarried code c) (announced code c)))

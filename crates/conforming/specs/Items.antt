@@ -29,11 +29,12 @@ item code c i =
 unfoldable pub itemEnd : ℕ → ℕ → ℕ
 itemEnd code i = cond (eqb code attrBlk) (7 + 6 * i) (cond (eqb code attrLin) (2 + i) (6 + i / 4))
 
--- how many items end inside the command, whatever it announces: item i does exactly if i is below it (`inside-ends`)
+-- how many items end inside the command, whatever it announces: item i does exactly if i is below this number
+-- (`inside-ends`)
 unfoldable pub itemsInside : ℕ → List ℕ → ℕ
 itemsInside code c = cond (eqb code attrBlk) ((length c - 2) / 6) (cond (eqb code attrLin) (length c - 2) (4 * (length c - 6)))
 
--- how many the rules carry out: those that are announced, up to the first that doesn't
+-- how many the rules carry out: those that are announced, up to the first that doesn't end inside the command
 unfoldable pub itemsCarried : ℕ → List ℕ → ℕ
 itemsCarried code c = min (announced code c) (itemsInside code c)
 

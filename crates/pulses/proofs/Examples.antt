@@ -30,7 +30,7 @@ pub cells-in-packets :
 unfolding fewest bytesFor
 cells-in-packets = refl
 
--- n items of zeros in p packets
+-- n announced in p packets, all other bytes zero
 abbrev told : ℕ → ℕ → ℕ → Answer Bool
 told code p n = judged (announcing code p n (replicate (16 * p - length (announcing code p n [])) 0))
 

@@ -27,7 +27,7 @@ held-fewest : (code n p : ℕ) → leb (bytesFor code n) (16 * p) ≡ leb (fewes
 unfolding fewest
 held-fewest code n p = same-leb (bytesFor code n) (16 * p) (fewest code n) p (λ k. omega arith) (λ k. omega arith)
 
--- so many may be announced exactly if the most packets hold them: seven hold 18 sets or 110 lines, six 360 cells, and no more
+-- n is no more than may be announced exactly if the greatest allowed number of packets holds n: seven hold 18 sets or 110 lines, six 360 cells
 pub most-held : (code n : ℕ) → announces code ≡ true → leb n (mostItems code) ≡ leb (fewest code n) (mostPackets code)
 unfolding mostItems fewest bytesFor mostPackets
 most-held code n h =
@@ -99,7 +99,7 @@ module _ (code p n : ℕ) (h : announces code ≡ true) where
       (λ l. (omega arith, (lit≤ tt, (lit≤ tt, (omega arith, (omega arith, b))))))
       code h m
 
-  -- Any number that may be announced, in any number of packets from the fewest up, whatever comes behind the number.
+  -- Any number that may be announced, in any number of packets from the fewest to the most that there may be, whatever comes behind the number.
   pub any-items : (d : List ℕ) → Bytes d → length (announcing code p n d) ≡ 16 * p → 0 < n → n ≤ mostItems code → fewest code n ≤ p → p ≤ mostPackets code
       → Sends code p n (announcing code p n d)
   unfolding announcing packetsIn judged

@@ -1,4 +1,4 @@
--- How many items, sets, lines or cells, may be announced and are held: by the code's tests, and of each of the three codes.
+-- What the tests in src/rule tell of the number of items; and that a law of each of the three codes is one of every code that announces.
 use mathlib.Core.Path.{_≡_, refl, sym, _∙_, subst}
 use mathlib.Core.Bool.{Bool, true, false, _||_}
 use Prim.Native.Nat.{ℕ, _≤_}
@@ -14,12 +14,13 @@ most-360 code =
     either (λ (n : ℕ). n ≤ 360) (eqb code attrBlk) (λ e. lit≤ tt)
     (λ e. either (λ (n : ℕ). n ≤ 360) (eqb code attrLin) (λ e. lit≤ tt) (λ e. lit≤ tt))
 
--- as the code's tests tell it
+-- as the tests in src/rule tell it
 pub few-items : (code n most : ℕ) (t : Bool) → most ≡ mostItems code → t ≡ oneTo most n → t ≡ true → n ≤ 360
 few-items code n most t e f h =
     let k : n ≤ most = leb-true n most (and-right (leb 1 n) (leb n most) (sym f ∙ h)) in
     omega (arith, most-360 code)
 
+-- as `same-ltb` of the crate `bits`, for the other test
 pub same-leb : (a b c d : ℕ) → (a ≤ b → c ≤ d) → (c ≤ d → a ≤ b) → leb a b ≡ leb c d
 same-leb a b c d f g = same-test (leb a b) (leb c d) (λ e. le-leb c d (f (leb-true a b e))) (λ e. le-leb a b (g (leb-true c d e)))
 

@@ -1,5 +1,5 @@
 -- Whether a command conforms: its code, its number of packets and the number that it announces are on Pan Docs' list, and its packets hold
--- all that it announces. RULES 7.2; Pan Docs, Command summary (packets), Attributes (the sets of ATTR_BLK and ATTR_LIN, the cells of
+-- all that it announces. RULES 7.2; Pan Docs, Command summary (packets), Attributes (the sets of ATTR_BLK, the lines of ATTR_LIN, the cells of
 -- ATTR_CHR, and where in a command they stand).
 use Prim.Native.Nat.{ℕ, _+_, _*_, _/_}
 use mathlib.Core.Path.{_≡_}
@@ -39,7 +39,8 @@ announced code c = cond (eqb code attrChr) (wordAt c 3) (getD c 1 0)
 unfoldable pub mostItems : ℕ → ℕ
 mostItems code = cond (eqb code attrBlk) 18 (cond (eqb code attrLin) 110 360)
 
--- the bytes of a command up to the end of its n items: from byte 2 on six a set, or one a line; from byte 6 on one for four cells
+-- the bytes of a command up to the end of its n items: from byte 2 on six a set, or one a line; from byte 6 on one for every four
+-- cells, rounded up
 unfoldable pub bytesFor : ℕ → ℕ → ℕ
 bytesFor code n = cond (eqb code attrBlk) (2 + 6 * n) (cond (eqb code attrLin) (2 + n) (6 + (n + 3) / 4))
 

@@ -72,7 +72,7 @@ pub fn announced(code: u8, command: &[u8]) -> usize
     }
 }
 
-// Whether so many items may be announced, and so many packets hold them.
+// Whether this number of items may be announced, and these packets hold them all.
 pub fn brings(code: u8, packets: usize, items: usize) -> bool
     requires { ⌜ packets < 8 ⌝ }
     ensures { λ r. ⌜ r ≡ brings code packets items ⌝ }

@@ -79,7 +79,7 @@ fn name(code: u8) {
     }
 }
 
-// A command of zeros but for its first byte and the number that it announces, with room for seven packets.
+// A command of zeros but for its first byte and the number that it announces, in an array of seven packets.
 fn announcing(code: u8, packets: u8, count: u16) -> [u8; parts::STORE_BYTES] {
     let mut d = [0u8; parts::STORE_BYTES];
     d[0] = code << 3 | packets;

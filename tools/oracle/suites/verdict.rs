@@ -1,5 +1,5 @@
 //! The verdict, which the Rust lacks. It is held to a second reading of RULES 7.2, with a table worked by hand of what packets hold, and by 7.3 to
-//! what the Rust does: with as many packets as it may have, a command conforms exactly if the last item that it announces is carried out.
+//! what the Rust does: with a number of packets that it may have, a command conforms exactly if the last item that it announces is carried out.
 
 use crate::block::*;
 use crate::both::Both;
@@ -152,7 +152,7 @@ fn last_items(ctx: &mut Ctx) {
 }
 
 /// Commands that are the same but for the number that they announce, which goes up from 0. Each is sent to the same map, and each item changes
-/// it. So the last item was carried out exactly if the Rust's map is another than after the command before.
+/// it (but for cells off the map). So the last item was carried out exactly if the Rust's map is another than after the command before.
 fn ascending(ctx: &mut Ctx, start: &[u8], mut d: Vec<u8>, held: usize) {
     let mut both = Both::load(start, 0);
     let mut before = attribute_cells(&start[MAP]);
