@@ -1,7 +1,7 @@
-//! Times jobs of Sporedrift beside the same jobs of the Rust, the check of refused blocks beside that of valid ones, and a state in beside a
-//! plain copy. In a turn each side runs once, one after the other, so that a busy or slow moment meets both. A round has several turns and
-//! tells one ratio, of the best time of each side; the middle one of the rounds' ratios counts, and the least and the greatest show how far
-//! to trust it. Answers are compared before anything is timed.
+//! Times jobs of Sporedrift beside the same jobs of the Rust, the check of refused blocks beside that of valid ones, a state in beside a plain
+//! copy, and verdicts of many packets beside those of one. In a turn each side runs once, one after the other, so that a busy or slow moment
+//! meets both. A round has several turns and tells one ratio, of the best time of each side; the middle one of the rounds' ratios counts, and
+//! the least and the greatest show how far to trust it. Answers are compared before anything is timed.
 
 // of tools/oracle, beside which `run` puts this: its parts stand ready for every job
 #![allow(dead_code, unused_imports)]

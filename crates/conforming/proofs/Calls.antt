@@ -7,10 +7,9 @@ use mathlib.Core.List.{List, map}
 use lib.ListN.{length, take, getD}
 use Rattle.parts.specs.Parts.{storeBytes}
 use Rattle.receiver.specs.Count.{codeOf}
-use Rattle.receiver.specs.Rises.{rises}
 use Rattle.pulses.specs.Bytes.{Bytes, packetsIn, malformed}
 use Rattle.pulses.specs.Encode.{pulsesOf, Encodes}
-use Rattle.pulses.specs.Trip.{NoneHeld, resting}
+use Rattle.pulses.specs.Trip.{NoneHeld}
 use Rattle.pulses.specs.Verdict.{announces, announced, conforms, Judges}
 use Rattle.pulses.specs.declared.Encoded.the-variants as E
 use Rattle.pulses.specs.declared.Conformance.the-variants as C
@@ -21,7 +20,7 @@ use Rattle.layout.specs.Valid.{valid}
 use Rattle.rules.specs.Carry.{withPads, withMap}
 use Rattle.order.specs.Log.{write}
 use Rattle.unit.specs.Together.{Performed, performed}
-use Rattle.unit.specs.Trip.{risesIn, sentTo, returned}
+use Rattle.unit.specs.Trip.{arrived, sentTo, returned}
 use Rattle.unit.proofs.Allowed.{Allowed}
 use Rattle.unit.proofs.Trip.{calls-round-trip, contracts-round-trip, sent-loads}
 use Rattle.conforming.specs.Items.{itemsDone, afterItems, sentItems}
@@ -31,9 +30,7 @@ use Rattle.conforming.proofs.Items.{all-carried}
 sent-all : (u : Sgb) (c : List ℕ) → malformed c ≡ false → conforms c ≡ true → announces (codeOf (getD c 0 0)) ≡ true
     → sentTo u c ≡ sentItems u c (announced (codeOf (getD c 0 0)) c)
 unfolding sentTo sentItems
-sent-all u c t k h =
-    all-carried c (codeOf (getD c 0 0)) t h refl k
-    (record { port = resting; game = withPads (rises (risesIn c) (u .game .index) (u .game .pads)) (u .game .pads) (u .game); snes = u .snes })
+sent-all u c t k h = all-carried c (codeOf (getD c 0 0)) t h refl k (arrived u c)
 
 module _ (b buffer c : List ℕ) (k : valid b ≡ true) (room : storeBytes ≤ length buffer) (bytes : Bytes c) (free : NoneHeld (load b .port .rx))
     (says : Judges c C.Conforms) (h : announces (codeOf (getD c 0 0)) ≡ true) where
@@ -59,7 +56,7 @@ module _ (b buffer c : List ℕ) (k : valid b ≡ true) (room : storeBytes ≤ l
   pub contracts-map : (out after : List ℕ) (n : ℕ) → Encodes c out (E.Writes n) after
       → (o : Performed) → Allowed b buffer (map write (take n after)) o
       → load (o .block) .game .map ≡ itemsDone (codeOf (getD c 0 0)) c (announced (codeOf (getD c 0 0)) c) (load b .game .map)
-  unfolding sentItems afterItems withMap withPads
+  unfolding arrived sentItems afterItems withMap withPads
   contracts-map out after n e o a =
       let v = verdict-conforms c says in
       ap (λ (q : Performed). load (q .block) .game .map) (contracts-round-trip b buffer c k room bytes free out after n e o a)

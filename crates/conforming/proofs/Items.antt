@@ -6,16 +6,16 @@ use mathlib.Core.Path.{_≡_, refl, sym, ap, _∙_}
 use mathlib.Core.Bool.{true, false, _&&_}
 use mathlib.Core.List.{List, [], _∷_}
 use lib.Dec.{eqb, ltb, leb}
-use lib.ListN.{length, getD, replicate}
+use lib.ListN.{length, getD}
 use borrow.Author.Tests.{eq-eqb, eqb-true, lt-ltb, ltb-true, le-leb, leb-true}
-use Rattle.bits.proofs.Tests.{and-both, same-test, same-ltb}
+use Rattle.bits.proofs.Tests.{and-both, same-test, same-ltb, same-leb}
 use Rattle.bits.specs.Word.{word, wordAt, lowByte, highByte}
 use Rattle.receiver.specs.Count.{codeOf}
 use Rattle.pulses.specs.Bytes.{packetsIn, malformed}
-use Rattle.pulses.specs.Fewest.{announcing}
-use Rattle.pulses.specs.Verdict.{attrBlk, attrLin, attrChr, announces, announced, mostItems, bytesFor, oneTo, brings, mostPackets, conformsBy, conforms}
+use Rattle.pulses.specs.Fewest.{announcing, bare}
+use Rattle.pulses.specs.Verdict.{attrBlk, attrLin, attrChr, announces, announced, mostItems, bytesFor, oneTo, brings, mostPackets, conforms}
 use Rattle.pulses.proofs.Commands.{formed}
-use Rattle.pulses.proofs.Held.{same-leb, each-of-three}
+use Rattle.pulses.proofs.Held.{each-of-three, conforms-items}
 use Rattle.attribute_blocks.specs.Blk.{blkMap}
 use Rattle.attributes.specs.Lin.{linMap}
 use Rattle.attribute_cells.specs.Chr.{chrMap}
@@ -62,15 +62,14 @@ module _ (c : List ℕ) (code : ℕ) (t : malformed c ≡ false) (h : announces 
   pub conforms-as-carried :
       conforms c
       ≡ (leb (packetsIn c) (mostPackets code) && (oneTo (mostItems code) (announced code c) && eqb (itemsCarried code c) (announced code c)))
-  unfolding conforms conformsBy brings itemsCarried
+  unfolding brings itemsCarried
   conforms-as-carried =
       let f = formed c t in
       let m : ℕ = announced code c in
-      let l : leb code 0x19 ≡ true = each-of-three (λ (k : ℕ). leb k 0x19 ≡ true) refl refl refl code h in
       let q : leb m (itemsInside code c) ≡ eqb (min m (itemsInside code c)) m =
       same-test _ _ (λ k. let y = leb-true m (itemsInside code c) k in eq-eqb _ m (omega arith)) (λ k. let y = eqb-true _ m k in le-leb m (itemsInside code c) (omega arith))
       in
-      rw (e, l, h, inside-exactly code h c m (packetsIn c) (f .whole) (f .some), q)
+      conforms-items c code h e ∙ rw (inside-exactly code h c m (packetsIn c) (f .whole) (f .some), q)
 
   pub all-counted : conforms c ≡ true → itemsCarried code c ≡ announced code c
   all-counted k =
@@ -92,8 +91,8 @@ module _ (c : List ℕ) (code : ℕ) (t : malformed c ≡ false) (h : announces 
 
 -- n announced in p packets, all other bytes zero
 abbrev counted : ℕ → ℕ → ℕ → ℕ
-counted code p n = itemsCarried code (announcing code p n (replicate (16 * p - length (announcing code p n [])) 0))
+counted code p n = itemsCarried code (bare code p n)
 
 pub carried-worked : (counted attrBlk 1 18 ∷ counted attrBlk 7 18 ∷ counted attrLin 1 15 ∷ counted attrChr 1 41 ∷ []) ≡ (2 ∷ 18 ∷ 14 ∷ 40 ∷ [])
-unfolding itemsCarried itemsInside announced announcing wordAt word lowByte highByte
+unfolding itemsCarried itemsInside announced bare announcing wordAt word lowByte highByte
 carried-worked = refl

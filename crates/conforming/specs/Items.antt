@@ -6,17 +6,15 @@ use mathlib.Core.List.{List}
 use lib.Dec.{eqb}
 use lib.ListN.{length, getD}
 use Rattle.receiver.specs.Count.{codeOf}
-use Rattle.receiver.specs.Rises.{rises}
 use Rattle.pulses.specs.Verdict.{attrBlk, attrLin, announced}
-use Rattle.pulses.specs.Trip.{resting}
 use Rattle.attribute_map.specs.Map.{pack, unpack}
 use Rattle.attribute_map.specs.Data.{changed, steps}
 use Rattle.attribute_blocks.specs.Blk.{blkCell, setAt}
 use Rattle.attributes.specs.Lin.{linCell}
 use Rattle.attribute_cells.specs.Chr.{placeOf, putAt, pairOfData}
 use Rattle.layout.specs.Sgb.{Sgb}
-use Rattle.rules.specs.Carry.{withPads, withMap}
-use Rattle.unit.specs.Trip.{risesIn}
+use Rattle.rules.specs.Carry.{withMap}
+use Rattle.unit.specs.Trip.{arrived}
 
 -- item i of a command c of this code, from 0 on, carried out on a map: a set, a line, a cell
 unfoldable pub item : ℕ → List ℕ → ℕ → List (List ℕ) → List (List ℕ)
@@ -46,9 +44,6 @@ itemsDone code c n map = pack (steps (item code c) n (unpack map))
 unfoldable pub afterItems : ℕ → List ℕ → ℕ → Sgb → Sgb
 afterItems code c n u = record { port = u .port; game = withMap (itemsDone code c n (u .game .map)) (u .game); snes = u .snes }
 
--- the unit after a command was sent to it, and n of its items were carried out: as after any command (`sentTo` of the crate `unit`) the port is
--- at rest, and the joypad index has moved by the command's rises
+-- the unit after a command was sent to it, and n of its items were carried out, as `sentTo` of the crate `unit` is the one after any command
 unfoldable pub sentItems : Sgb → List ℕ → ℕ → Sgb
-sentItems u c n =
-    afterItems (codeOf (getD c 0 0)) c n
-    (record { port = resting; game = withPads (rises (risesIn c) (u .game .index) (u .game .pads)) (u .game .pads) (u .game); snes = u .snes })
+sentItems u c n = afterItems (codeOf (getD c 0 0)) c n (arrived u c)

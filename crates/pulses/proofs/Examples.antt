@@ -2,13 +2,12 @@
 use mathlib.Core.Path.{_≡_, refl}
 use mathlib.Core.Bool.{Bool, true, false}
 use mathlib.Core.List.{[], _∷_, _++_, map}
-use Prim.Native.Nat.{ℕ, _-_, _*_}
-use lib.ListN.{length, replicate}
+use Prim.Native.Nat.{ℕ}
 use Rattle.bits.specs.Word.{word, wordAt, lowByte, highByte}
 use Rattle.receiver.specs.Count.{codeOf, countOf}
 use Rattle.pulses.specs.Answer.{Answer, given}
 use Rattle.pulses.specs.Bytes.{packetsIn, malformed}
-use Rattle.pulses.specs.Fewest.{fewest, announcing}
+use Rattle.pulses.specs.Fewest.{fewest, announcing, bare}
 use Rattle.pulses.specs.Verdict.{attrBlk, attrLin, attrChr, announces, announced, mostItems, bytesFor, brings, mostPackets, conformsBy, conforms, judged}
 
 -- the most items that 1, 2, .. packets hold, and one more each time but the last
@@ -32,10 +31,10 @@ cells-in-packets = refl
 
 -- n announced in p packets, all other bytes zero
 abbrev told : ℕ → ℕ → ℕ → Answer Bool
-told code p n = judged (announcing code p n (replicate (16 * p - length (announcing code p n [])) 0))
+told code p n = judged (bare code p n)
 
 pub eighteen-sets : (told attrBlk 1 18 ≡ given false) × (told attrBlk 7 18 ≡ given true)
-unfolding announcing lowByte highByte word wordAt codeOf countOf packetsIn malformed announces announced mostItems bytesFor brings mostPackets conformsBy conforms judged
+unfolding bare announcing lowByte highByte word wordAt codeOf countOf packetsIn malformed announces announced mostItems bytesFor brings mostPackets conformsBy conforms judged
 eighteen-sets = (refl, refl)
 
 -- just at what the packets hold, and just past it; none at all; and cells in seven packets
@@ -45,5 +44,5 @@ pub at-and-past :
     ++ (told attrChr 1 40 ∷ told attrChr 1 41 ∷ told attrChr 6 360 ∷ told attrChr 6 361 ∷ told attrChr 7 360 ∷ [])
     ≡ map given
     (true ∷ false ∷ true ∷ false ∷ false ∷ false ∷ true ∷ false ∷ true ∷ false ∷ true ∷ false ∷ true ∷ false ∷ false ∷ [])
-unfolding announcing lowByte highByte word wordAt codeOf countOf packetsIn malformed announces announced mostItems bytesFor brings mostPackets conformsBy conforms judged
+unfolding bare announcing lowByte highByte word wordAt codeOf countOf packetsIn malformed announces announced mostItems bytesFor brings mostPackets conformsBy conforms judged
 at-and-past = refl

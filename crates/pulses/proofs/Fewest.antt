@@ -8,18 +8,18 @@ use native.Mathlib.Omega.{arith}
 use lib.Dec.{eqb, leb, lit≤}
 use lib.ListN.{length, getD, replicate, length-replicate}
 use borrow.Author.Tests.{leb-true, le-leb, lt-leb}
-use Rattle.bits.proofs.Tests.{and-both, and-true}
+use Rattle.bits.proofs.Tests.{and-both, and-true, same-leb}
 use Rattle.bits.specs.Word.{word, wordAt, lowByte, highByte}
 use Rattle.receiver.specs.Count.{codeOf, countOf}
 use Rattle.pulses.specs.Answer.{verdictAnswer}
 use Rattle.pulses.specs.Bytes.{Bytes, packetsIn}
-use Rattle.pulses.specs.Fewest.{fewest, announcing, Sends}
-use Rattle.pulses.specs.Verdict.{attrChr, lastCode, announces, announced, mostItems, bytesFor, oneTo, brings, mostPackets, conformsBy, conforms, judged, Judges}
+use Rattle.pulses.specs.Fewest.{fewest, announcing, bare, Sends}
+use Rattle.pulses.specs.Verdict.{attrChr, announces, announced, mostItems, bytesFor, oneTo, brings, mostPackets, conforms, judged, Judges}
 use Rattle.pulses.specs.declared.Conformance.{Conformance}
 use Rattle.pulses.specs.declared.Conformance.the-variants as C
 use Rattle.pulses.proofs.Commands.{well-formed}
 use Rattle.pulses.proofs.Encodes.{verdict-conforms, one-verdict}
-use Rattle.pulses.proofs.Held.{same-leb, each-of-three}
+use Rattle.pulses.proofs.Held.{each-of-three, conforms-items}
 
 -- ---- the fewest packets
 
@@ -42,10 +42,10 @@ most-held code n h =
 -- a command of p packets that announces n items
 module _ (c : List ℕ) (code p n : ℕ) (h : announces code ≡ true) (e : codeOf (getD c 0 0) ≡ code) (f : packetsIn c ≡ p) (g : announced code c ≡ n) where
   pub conforms-exactly : conforms c ≡ (oneTo (mostItems code) n && (leb (fewest code n) p && leb p (mostPackets code)))
-  unfolding conforms conformsBy brings
+  unfolding brings
   conforms-exactly =
-      let l : leb code lastCode ≡ true = each-of-three (λ (k : ℕ). leb k lastCode ≡ true) refl refl refl code h in
-      rw (e, l, f, h, g, held-fewest code n p) (turned (leb p (mostPackets code)) (oneTo (mostItems code) n) (leb (fewest code n) p))
+      conforms-items c code h e
+      ∙ rw (f, g, held-fewest code n p) (turned (leb p (mostPackets code)) (oneTo (mostItems code) n) (leb (fewest code n) p))
     where
       turned : (a b d : Bool) → (a && (b && d)) ≡ (b && (d && a))
       turned true true true = refl
@@ -125,29 +125,29 @@ module _ (code p n : ℕ) (h : announces code ≡ true) where
         conforming = rw (well-formed c p q y l, v);
       }
 
-length-announcing : (code p n r : ℕ) → length (announcing code p n (replicate r 0)) ≡ length (announcing code 0 0 []) + r
+length-announcing : (code p n r : ℕ) → length (announcing code p n (replicate r 0)) ≡ length (announcing code p n []) + r
 unfolding announcing
 length-announcing code p n r = go (eqb code attrChr)
   where
     go : (b : Bool)
         → length ((8 * code + p) ∷ cond b (0 ∷ 0 ∷ lowByte n ∷ highByte n ∷ replicate r 0) (n ∷ replicate r 0))
-        ≡ length ((8 * code + 0) ∷ cond b (0 ∷ 0 ∷ lowByte 0 ∷ highByte 0 ∷ []) (0 ∷ [])) + r
+        ≡ length ((8 * code + p) ∷ cond b (0 ∷ 0 ∷ lowByte n ∷ highByte n ∷ []) (n ∷ [])) + r
     go true = omega (arith, length-replicate {A = ℕ} r 0)
     go false = omega (arith, length-replicate {A = ℕ} r 0)
 
-some-packet : (code n : ℕ) → announces code ≡ true → (0 < fewest code n) × (length (announcing code 0 0 []) ≤ 16)
+some-packet : (code p n : ℕ) → announces code ≡ true → (0 < fewest code n) × (length (announcing code p n []) ≤ 16)
 unfolding fewest bytesFor announcing
-some-packet code n =
-    each-of-three (λ (k : ℕ). (0 < fewest k n) × (length (announcing k 0 0 []) ≤ 16))
+some-packet code p n =
+    each-of-three (λ (k : ℕ). (0 < fewest k n) × (length (announcing k p n []) ≤ 16))
     (omega arith, lit≤ tt) (omega arith, lit≤ tt) (omega arith, lit≤ tt) code
 
 -- so each number that may be announced is reached, in the fewest packets that hold it
-pub each-number : (code n : ℕ) → announces code ≡ true → 0 < n → n ≤ mostItems code
-    → Sends code (fewest code n) n (announcing code (fewest code n) n (replicate (16 * fewest code n - length (announcing code 0 0 [])) 0))
+pub each-number : (code n : ℕ) → announces code ≡ true → 0 < n → n ≤ mostItems code → Sends code (fewest code n) n (bare code (fewest code n) n)
+unfolding bare
 each-number code n h z m =
     let p : ℕ = fewest code n in
-    let r : ℕ = 16 * p - length (announcing code 0 0 []) in
-    let s = some-packet code n h in
+    let r : ℕ = 16 * p - length (announcing code p n []) in
+    let s = some-packet code p n h in
     any-items code p n h (replicate r 0) (zeros r) (length-announcing code p n r ∙ omega (arith, s .0, s .1)) z m (omega arith)
     (leb-true p (mostPackets code) (sym (most-held code n h) ∙ le-leb n (mostItems code) m))
 

@@ -38,7 +38,7 @@ use Rattle.order.proofs.BlockOrder.{saved, calls-saved, run-good}
 use Rattle.block_port.specs.Bytes.{handed, packetsTold}
 use Rattle.unit.specs.Calls.{packetsAnswered}
 use Rattle.unit.specs.Together.{Reply, commandHeld, Performed, performed, repliesOf, bufferAfter, performedBy}
-use Rattle.unit.specs.Trip.{ones, risesIn, sentTo, returned}
+use Rattle.unit.specs.Trip.{ones, risesIn, arrived, sentTo, returned}
 use Rattle.unit.proofs.Allowed.{Allowed, allowed-performed}
 use Rattle.unit.proofs.Together.{performed-calls, replies-commands}
 
@@ -204,7 +204,7 @@ module _ (u : Sgb) (c : List ℕ) where
   pub unit-round-trip : malformed c ≡ false → Bytes c → length (u .port .store) ≡ storeBytes → NoneHeld (u .port .rx)
       → run u (map write (pulsesOf (packetsIn c) c))
       ≡ record { last = sentTo u c; answers = replicate (260 * packetsIn c - 2) none ++ (some c ∷ none ∷ []); sights = [] }
-  unfolding sentTo risesIn sentBy raised
+  unfolding arrived sentTo risesIn sentBy raised
   unit-round-trip t h m f = let w = formed c t in go (packetsIn c) refl (w .some) (w .few) (w .whole)
     where
       go : (n : ℕ) → packetsIn c ≡ n → 0 < n → n ≤ 7 → length c ≡ 16 * n → run u (map write (pulsesOf n c)) ≡ sentBy n
@@ -278,7 +278,7 @@ module _ (b buffer c : List ℕ) (k : valid b ≡ true) (room : storeBytes ≤ l
   sent-loads t = good-back (sentTo (load b) c) (sent-good t)
 
   pub at-rest : malformed c ≡ false → load (returned b buffer c .block) .port ≡ resting
-  unfolding sentTo carried
+  unfolding arrived sentTo carried
   at-rest t = ap (λ (u : Sgb). u .port) (sent-loads t)
 
   -- by the contracts alone: the writes that `encode` answered, at the front of its output, and any calls that `write_joypad` allows

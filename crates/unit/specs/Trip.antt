@@ -29,11 +29,13 @@ risesIn c = packetsIn c + ones (bitsIn c)
 
 -- ---- the unit
 
--- the unit after a command: all of its rises come before its last stop pulse, at which it is carried out; then the port is at rest
+-- the unit with a command's pulses behind it and nothing carried out: the port is at rest, and every rise has moved the joypad index
+unfoldable pub arrived : Sgb → List ℕ → Sgb
+arrived u c = record { port = resting; game = withPads (rises (risesIn c) (u .game .index) (u .game .pads)) (u .game .pads) (u .game); snes = u .snes }
+
+-- the unit after a command: all of its rises come before its last stop pulse, at which it is carried out
 unfoldable pub sentTo : Sgb → List ℕ → Sgb
-sentTo u c =
-    carried (decode c)
-    (record { port = resting; game = withPads (rises (risesIn c) (u .game .index) (u .game .pads)) (u .game .pads) (u .game); snes = u .snes })
+sentTo u c = carried (decode c) (arrived u c)
 
 -- ---- the calls
 

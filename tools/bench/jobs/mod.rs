@@ -6,6 +6,7 @@ mod check;
 mod picture;
 mod screen;
 mod state;
+mod verdict;
 mod whole;
 mod writes;
 
@@ -32,6 +33,11 @@ pub fn all() -> Vec<Table> {
             heading: "a state, and as many bytes by a table | ours, us | by a table, us",
             units: 1.0,
             jobs: state::beside_a_look_up(),
+        },
+        Table {
+            heading: "verdict of a command that announces items | many packets, ns | one packet, ns",
+            units: 1000.0,
+            jobs: verdict::jobs(),
         },
     ]
 }
