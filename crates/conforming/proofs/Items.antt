@@ -41,18 +41,18 @@ inside-exactly : (code : ℕ) → announces code ≡ true → (c : List ℕ) (n 
 unfolding bytesFor itemsInside
 inside-exactly code h c n p l z =
     each-of-three (λ (k : ℕ). leb (bytesFor k n) (16 * p) ≡ leb n (itemsInside k c))
-    (same-leb (2 + 6 * n) (16 * p) n ((length c - 2) / 6) (λ j. omega arith) (λ j. omega arith))
-    (same-leb (2 + n) (16 * p) n (length c - 2) (λ j. omega arith) (λ j. omega arith))
-    (same-leb (6 + (n + 3) / 4) (16 * p) n (4 * (length c - 6)) (λ j. omega arith) (λ j. omega arith))
+    (same-leb (bytesFor attrBlk n) (16 * p) n (itemsInside attrBlk c) (λ j. omega arith) (λ j. omega arith))
+    (same-leb (bytesFor attrLin n) (16 * p) n (itemsInside attrLin c) (λ j. omega arith) (λ j. omega arith))
+    (same-leb (bytesFor attrChr n) (16 * p) n (itemsInside attrChr c) (λ j. omega arith) (λ j. omega arith))
     code h
 
 pub inside-ends : (code : ℕ) → announces code ≡ true → (c : List ℕ) (i : ℕ) → ltb i (itemsInside code c) ≡ ltb (itemEnd code i) (length c)
 unfolding itemEnd itemsInside
 inside-ends code h c i =
     each-of-three (λ (k : ℕ). ltb i (itemsInside k c) ≡ ltb (itemEnd k i) (length c))
-    (same-ltb i ((length c - 2) / 6) (7 + 6 * i) (length c) (λ j. omega arith) (λ j. omega arith))
-    (same-ltb i (length c - 2) (2 + i) (length c) (λ j. omega arith) (λ j. omega arith))
-    (same-ltb i (4 * (length c - 6)) (6 + i / 4) (length c) (λ j. omega arith) (λ j. omega arith))
+    (same-ltb i (itemsInside attrBlk c) (itemEnd attrBlk i) (length c) (λ j. omega arith) (λ j. omega arith))
+    (same-ltb i (itemsInside attrLin c) (itemEnd attrLin i) (length c) (λ j. omega arith) (λ j. omega arith))
+    (same-ltb i (itemsInside attrChr c) (itemEnd attrChr i) (length c) (λ j. omega arith) (λ j. omega arith))
     code h
 
 -- ---- a command that conforms

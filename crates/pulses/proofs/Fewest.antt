@@ -14,7 +14,7 @@ use Rattle.receiver.specs.Count.{codeOf, countOf}
 use Rattle.pulses.specs.Answer.{verdictAnswer}
 use Rattle.pulses.specs.Bytes.{Bytes, packetsIn}
 use Rattle.pulses.specs.Fewest.{fewest, announcing, bare, Sends}
-use Rattle.pulses.specs.Verdict.{attrChr, announces, announced, mostItems, bytesFor, oneTo, brings, mostPackets, conforms, judged, Judges}
+use Rattle.pulses.specs.Verdict.{attrBlk, attrLin, attrChr, announces, announced, mostItems, bytesFor, oneTo, brings, mostPackets, conforms, judged, Judges}
 use Rattle.pulses.specs.declared.Conformance.{Conformance}
 use Rattle.pulses.specs.declared.Conformance.the-variants as C
 use Rattle.pulses.proofs.Commands.{well-formed}
@@ -32,9 +32,9 @@ pub most-held : (code n : ℕ) → announces code ≡ true → leb n (mostItems 
 unfolding mostItems fewest bytesFor mostPackets
 most-held code n h =
     each-of-three (λ (k : ℕ). leb n (mostItems k) ≡ leb (fewest k n) (mostPackets k))
-    (same-leb n 18 ((2 + 6 * n + 15) / 16) 7 (λ k. omega arith) (λ k. omega arith))
-    (same-leb n 110 ((2 + n + 15) / 16) 7 (λ k. omega arith) (λ k. omega arith))
-    (same-leb n 360 ((6 + (n + 3) / 4 + 15) / 16) 6 (λ k. omega arith) (λ k. omega arith))
+    (same-leb n (mostItems attrBlk) (fewest attrBlk n) (mostPackets attrBlk) (λ k. omega arith) (λ k. omega arith))
+    (same-leb n (mostItems attrLin) (fewest attrLin n) (mostPackets attrLin) (λ k. omega arith) (λ k. omega arith))
+    (same-leb n (mostItems attrChr) (fewest attrChr n) (mostPackets attrChr) (λ k. omega arith) (λ k. omega arith))
     code h
 
 -- ---- the verdict

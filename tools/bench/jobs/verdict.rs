@@ -1,6 +1,7 @@
 //! The verdict of a command in as many packets as it may have, beside that of the same kind in one. It looks at the length and at three bytes at
 //! the most, so that more packets must not take more time.
 
+use crate::generate;
 use crate::{Job, Turn, each};
 use std::hint::black_box;
 
@@ -8,45 +9,31 @@ unsafe extern "C" {
     fn probe_verdict(command: *const u8, len: usize) -> u8;
 }
 
-/// The two are all but alike; what a few nanoseconds are timed to is the rest.
+/// The two are all but alike; the rest is room for what so short a time varies by.
 const LIMIT: f64 = 1.5;
 
 pub fn jobs() -> Vec<Job> {
     vec![
-        job("verdict, sets in 7 packets", sets(7, 18), sets(1, 2)),
-        job("verdict, lines in 7 packets", lines(7, 110), lines(1, 14)),
-        job("verdict, cells in 6 packets", cells(6, 360), cells(1, 40)),
+        job("verdict, sets in 7 packets", (0x27, 18), (0x21, 2)),
+        job("verdict, lines in 7 packets", (0x2F, 110), (0x29, 14)),
+        job("verdict, cells in 6 packets", (0x3E, 360), (0x39, 40)),
     ]
 }
 
-fn job(name: &'static str, many: Vec<u8>, one: Vec<u8>) -> Job {
-    assert_eq!((verdict(&many), verdict(&one)), (1, 1));
+/// Of each command the first byte, and how many items it announces.
+fn job(name: &'static str, many: (u8, usize), one: (u8, usize)) -> Job {
+    let [many, one] = [many, one].map(|(first, items)| {
+        let mut command = vec![0; 16 * usize::from(first % 8)];
+        generate::announce(&mut command, first, items);
+        assert_eq!(verdict(&command), 1);
+        command
+    });
     Job {
         name,
         limit: LIMIT,
         port: turn(many),
         other: turn(one),
     }
-}
-
-/// A command of so many packets: its code and the number that it announces, and zeros.
-fn announcing(code: u8, packets: u8, put: impl Fn(&mut [u8])) -> Vec<u8> {
-    let mut command = vec![0; 16 * usize::from(packets)];
-    command[0] = 8 * code + packets;
-    put(&mut command);
-    command
-}
-
-fn sets(packets: u8, n: u8) -> Vec<u8> {
-    announcing(0x04, packets, |d| d[1] = n)
-}
-
-fn lines(packets: u8, n: u8) -> Vec<u8> {
-    announcing(0x05, packets, |d| d[1] = n)
-}
-
-fn cells(packets: u8, n: u16) -> Vec<u8> {
-    announcing(0x07, packets, |d| d[3..5].copy_from_slice(&n.to_le_bytes()))
 }
 
 fn turn(command: Vec<u8>) -> Turn {

@@ -70,6 +70,15 @@ fn shape(rng: &mut Rng, code: u8, d: &mut [u8]) {
     }
 }
 
+/// Makes a command announce so many items: its first byte, and the number, in byte 1 or, for the cells of ATTR_CHR, in the word at byte 3.
+pub fn announce(d: &mut [u8], first: u8, items: usize) {
+    d[0] = first;
+    match first / 8 {
+        0x07 => d[3..5].copy_from_slice(&(items as u16).to_le_bytes()),
+        _ => d[1] = items as u8,
+    }
+}
+
 /// RULES 7.1: 260 writes a packet.
 pub fn encode(command: &[u8]) -> Vec<u8> {
     let mut writes = Vec::new();

@@ -81,15 +81,6 @@ fn noise(rng: &mut Rng) -> [u8; 128] {
     d
 }
 
-/// The first byte, and the number of items behind it.
-fn announce(d: &mut [u8], first: u8, items: usize) {
-    d[0] = first;
-    match first / 8 {
-        ATTR_CHR => d[3..5].copy_from_slice(&(items as u16).to_le_bytes()),
-        _ => d[1] = items as u8,
-    }
-}
-
 /// Every number that can be announced, in every number of packets. A command whose first byte says 0 packets is malformed.
 fn every_number(ctx: &mut Ctx) {
     for code in ANNOUNCING {
@@ -97,7 +88,9 @@ fn every_number(ctx: &mut Ctx) {
         for packets in 0..8 {
             let len = 16 * usize::from(packets.max(1));
             for items in 0..=most {
-                both_ways(ctx, len, |d| announce(d, code << 3 | packets, items));
+                both_ways(ctx, len, |d| {
+                    generate::announce(d, code << 3 | packets, items)
+                });
             }
         }
     }
@@ -164,7 +157,7 @@ fn ascending(ctx: &mut Ctx, start: &[u8], mut d: Vec<u8>, held: usize) {
         _ => (0..=255).collect(),
     };
     for items in numbers {
-        announce(&mut d, first, items);
+        generate::announce(&mut d, first, items);
         let mut writes = generate::encode(&MAP_ANEW);
         writes.extend(generate::encode(&d));
         if let Err(why) = both.play(&writes) {

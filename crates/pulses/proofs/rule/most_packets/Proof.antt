@@ -1,4 +1,5 @@
 -- The tests are the definition's.
+use mathlib.Core.Path.{refl}
 use borrow.Author.Tests.{eq-eqb, ne-eqb}
 use Rattle.pulses.specs.Verdict.{mostPackets}
 use Rattle.pulses.proofs.rule.most_packets.Statement.{statement}
@@ -14,7 +15,7 @@ returns-2 c = rw (ne-eqb _ _ (c .before .if1 .left), eq-eqb _ _ (c .if2 .taken))
 
 returns-3 : tie.Need-returns-3
 unfolding mostPackets
-returns-3 c = rw (ne-eqb _ _ (c .before .before .if1 .left), ne-eqb _ _ (c .before .if2 .left), eq-eqb _ _ (c .if3 .taken))
+returns-3 c = rw (ne-eqb _ _ (c .before .before .if1 .left), ne-eqb _ _ (c .before .if2 .left), eq-eqb _ _ (c .if3 .taken)) refl
 
 returns-4 : tie.Need-returns-4
 unfolding mostPackets
