@@ -1,4 +1,5 @@
 // ATTR_BLK: rectangles, on the map by value (the crate `attribute_map`).
+#![tactic(auto)]
 ghost use Rattle.std.specs.Prelude.{◌≡◌, ◌&&◌, ◌+◌, ◌*◌, ◌≤◌, length};
 ghost use Rattle.attribute_map.specs.Data.{Whole, changed};
 ghost use Rattle.attribute_blocks.specs.Blk.{strictly, within, on_line, blk_pick, blk_cell, set_at, blk_map};
@@ -6,7 +7,7 @@ ghost use Rattle.attribute_blocks.specs.Blk.{strictly, within, on_line, blk_pick
 use attribute_map::lesser;
 
 // One set, as it stands in the command.
-#[derive(Drop)]
+#[derive(Clone, Copy)]
 pub struct BlkSet {
     pub control: u8,
     pub palettes: u8,

@@ -1,4 +1,5 @@
 // ATTR_CHR: cell after cell, on the map by value (the crate `attribute_map`).
+#![tactic(auto)]
 ghost use Rattle.std.specs.Prelude.{◌≡◌, ◌+◌, ◌-◌, ◌*◌, ◌≤◌, ◌<◌, length};
 ghost use Rattle.attribute_map.specs.Data.{Whole, steps};
 ghost use Rattle.attribute_cells.specs.Chr.{next, place_of, put_at, pair_of_data, chr_map};
@@ -6,7 +7,7 @@ ghost use Rattle.attribute_cells.specs.Chr.{next, place_of, put_at, pair_of_data
 use attribute_map::lesser;
 
 // A place on the map, or off it: a start may be anywhere, and neither number wraps at 256.
-#[derive(Drop)]
+#[derive(Clone, Copy)]
 pub struct Spot {
     pub x: usize,
     pub y: usize,

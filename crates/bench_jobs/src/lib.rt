@@ -1,5 +1,6 @@
 // Work as the programs do it, over lent memory, exported for times (tools/bench): a screen and writes on a valid block that is not checked
 // again, and a whole log as `replay` and `plate` take it, with their text in the place of what they write. The log's last line has its LF.
+#![tactic(auto)]
 ghost use Rattle.std.specs.Prelude.{◌≡◌, ◌*◌, ◌≤◌, ◌<◌, length, true};
 ghost use Rattle.parts.specs.Parts.{block_bytes, capture_bytes, store_bytes};
 ghost use Rattle.layout.specs.Block.{load};
@@ -7,7 +8,7 @@ ghost use Rattle.layout.specs.Valid.{Valid};
 ghost use Rattle.picture.specs.Tables.{TablesOf};
 ghost use Rattle.block_picture.specs.Drawn.{parts_of};
 ghost use Rattle.log_line.specs.Line.{line_digits};
-ghost use Rattle.log.specs.Steps.{desk, left};
+ghost use Rattle.log_chunks.specs.Steps.{desk, left};
 ghost use Rattle.log_reader.specs.Fed.{LentSizes, chunk_bytes, out_bytes};
 
 use log_reader::{CHUNK_BYTES, OUT_BYTES};
@@ -104,7 +105,7 @@ fn read_log(
     let mut n: usize = 0;
     while goes_on(reading, input.len(), at, text.len() - n) {
         let end = at + chunk_size(input.len() - at);
-        let f = log::fill(
+        let f = log_chunks::fill(
             reading,
             block,
             line,
@@ -162,7 +163,7 @@ fn finish(plate: u8, block: &[u8], words: &mut [u16], text: &mut [u8], n: usize)
     if text.len() - n < OUT_BYTES {
         return 0;
     }
-    n + log::head_line(block, &mut text[n..n + OUT_BYTES])
+    n + log_chunks::head_line(block, &mut text[n..n + OUT_BYTES])
 }
 
 fn picture(block: &[u8], words: &mut [u16], text: &mut [u8])
@@ -189,7 +190,7 @@ fn rows(
     let mut y: usize = 0;
     while y < 224 {
         let at = ROW * y;
-        log::row_line(
+        log_chunks::row_line(
             block,
             spreads,
             border,

@@ -1,6 +1,7 @@
 // What a fixed command does to the block: it looks at the parts that screens change, or marks what is pending there. The rules are
 // `fixedly` and `fixedSnes` of the crate `rules`; what each command computes is in the crates `palettes` and `commands`. The plain
 // commands are in the crate `block_plain`. Every worker of a command requires a valid block and leaves one.
+#![tactic(auto)]
 ghost use Rattle.std.specs.Prelude.{◌≡◌, length};
 ghost use Rattle.attribute_map.specs.Data.{Whole};
 ghost use Rattle.palettes.specs.Palettes as palette;

@@ -1,6 +1,7 @@
 // Looking for the byte of a block that breaks a rule: the lower of two, zeros that aren't, packet bits past the bit index. What is looked for
 // where is the crate `block_broken`; it is asked only of a block that is not valid, so that a valid one is checked as quickly as without it.
 // The meaning is `Broken` in the crate `broken`.
+#![tactic(auto)]
 ghost use Rattle.std.specs.Prelude.{◌≡◌, ◌+◌, ◌-◌, ◌/◌, ◌^◌, ◌<◌, ◌≤◌, leb, length};
 ghost use Rattle.parts.specs.Parts.{block_bytes, header_bytes, packet_at, packet_bytes};
 ghost use Rattle.layout.specs.Block.{byte};
@@ -12,7 +13,7 @@ ghost use Rattle.block_found.specs.Found.{found_told, first_set};
 use bits::all_zero;
 
 // The offset of a byte, or that nothing is broken.
-#[derive(Drop)]
+#[derive(Clone, Copy)]
 pub enum Found {
     Nothing,
     At(u16),

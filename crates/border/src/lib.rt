@@ -1,4 +1,5 @@
 // The border: a tile's part, a map entry, the colour at a pixel (RULES 6.1 to 6.3). Rust: `SgbBorder`.
+#![tactic(auto)]
 ghost use Rattle.std.specs.Prelude.{◌≡◌, ◌<◌, true, length};
 ghost use Rattle.parts.specs.Parts.{tiles_bytes, border_map_bytes, border_palettes_bytes};
 ghost use Rattle.bits.specs.Bit.{bit_at};
@@ -7,7 +8,7 @@ ghost use Rattle.border.specs.Border.{entry_at, draws, flipped, index_of, in_pal
 
 use colour::{BorderMapEntry, Rgb555};
 
-#[derive(Drop)]
+#[derive(Clone, Copy)]
 pub enum BorderColor {
     Transparent,
     Opaque(Rgb555),

@@ -1,6 +1,7 @@
 // `check`: a saved block on standard input; on standard output one line, `valid`, `1`, or as `23 at 8` the number of the rule that it
 // breaks and the offset of the lowest byte that does. What is printed stands in the contract of `check_saved::check`; here are the buffers
 // that it is lent.
+#![tactic(auto)]
 
 fn main() {
     let mut tally: u64 = 0;

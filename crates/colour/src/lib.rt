@@ -1,16 +1,17 @@
 // Colour words and map words (RULES 6.8 and 6.1): both have sixteen bits, and their types keep them apart, so that no map word gets
 // painted. Carried over: `Rgb555`, `GAMMA_RAMP`, `BorderMapEntry`.
+#![tactic(auto)]
 ghost use Rattle.std.specs.Prelude.{◌≡◌, ◌<◌};
 ghost use Rattle.bits.specs.Word.{word};
 ghost use Rattle.colour.specs.Colour.{ramp, rgb8};
 ghost use Rattle.colour.specs.Entry.{tile_of, palette_of, flip_x, flip_y};
 
 // A 15-bit colour of the SNES, as a palette holds it.
-#[derive(Drop)]
+#[derive(Clone, Copy)]
 pub struct Rgb555(pub u16);
 
 // The same colour at eight bits a channel, as a screen shows it.
-#[derive(Drop)]
+#[derive(Clone, Copy)]
 pub struct Rgb8 {
     pub r: u8,
     pub g: u8,
@@ -51,7 +52,7 @@ fn brightness(level: u16) -> u8
 }
 
 // One entry of the border's map: `VH-P PPCC CCCC CCCC`.
-#[derive(Drop)]
+#[derive(Clone, Copy)]
 pub struct BorderMapEntry(pub u16);
 
 impl BorderMapEntry {

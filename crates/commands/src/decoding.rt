@@ -7,7 +7,7 @@ ghost use Rattle.commands.specs.Told.{told};
 use transfer::pending::Transfer;
 
 // What reads and changes nothing that screens change.
-#[derive(Drop)]
+#[derive(Clone, Copy)]
 pub enum PlainCommand {
     PalPair(usize, usize),
     AttrBlk,
@@ -20,7 +20,7 @@ pub enum PlainCommand {
 }
 
 // What reads the system palettes, the files or the live capture, or sets the pending transfer.
-#[derive(Drop)]
+#[derive(Clone, Copy)]
 pub enum FixedCommand {
     PalSet,
     AttrSet,
@@ -28,7 +28,7 @@ pub enum FixedCommand {
     Transfer(Transfer),
 }
 
-#[derive(Drop)]
+#[derive(Clone, Copy)]
 pub enum Command {
     Plain(PlainCommand),
     Fixed(FixedCommand),

@@ -2,7 +2,7 @@
 ghost use Rattle.std.specs.Prelude.{◌≡◌};
 ghost use Rattle.commands.specs.Pads.{mlt_req};
 
-#[derive(Drop)]
+#[derive(Clone, Copy)]
 pub struct Pads {
     pub index: u8,
     pub mask: u8,

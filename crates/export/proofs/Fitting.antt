@@ -27,7 +27,7 @@ use Rattle.state_spans.specs.Going.{Lent, roomy, to_answer}
 use Rattle.view.specs.Looks.{mode_of, row_answer, picture_answer}
 use Rattle.transfer.specs.Page.{page_bytes}
 use Rattle.pages.specs.Pixels.{page_screen_answer}
-use Rattle.hex.specs.Hex.{bytes_of}
+use Rattle.hex_digits.specs.Hex.{bytes_of}
 use Rattle.log_line.specs.Line.{Meaning, by_kind, by_bytes, meaning_of}
 use Rattle.log_line.specs.Calls.{meaning_told, line_answer}
 use Rattle.rules.proofs.Keeps.{WholeIf}

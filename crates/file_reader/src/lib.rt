@@ -1,12 +1,13 @@
 // Standard input read into a lent buffer, up to the end of the input or of the buffer: for the programs that hold a whole file, `check` and
 // `page`. Here are the calls of `read`; the writing is in `log_writer`.
+#![tactic(auto)]
 ghost use Rattle.std.specs.Prelude.{◌≡◌, ◌+◌, ◌≤◌, length, take};
 ghost use Rattle.file_reader.specs.Came.{Came};
 
 use libc::STDIN_FILENO;
 
 // How reading ended: the input did; the buffer is full; a read failed, which has been said.
-#[derive(Drop)]
+#[derive(Clone, Copy)]
 pub enum End {
     Ended,
     Full,
@@ -14,21 +15,21 @@ pub enum End {
 }
 
 // What one read brought.
-#[derive(Drop)]
+#[derive(Clone, Copy)]
 struct More {
     bytes: usize,
     failed: bool,
 }
 
 // How many bytes came.
-#[derive(Drop)]
+#[derive(Clone, Copy)]
 pub struct Read {
     pub got: usize,
     pub end: End,
 }
 
 // What a program printed: the same, and whether all that is due was written.
-#[derive(Drop)]
+#[derive(Clone, Copy)]
 pub struct Print {
     pub got: usize,
     pub end: End,

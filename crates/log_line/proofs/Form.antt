@@ -8,8 +8,8 @@ use native.Mathlib.Omega.{arith}
 use borrow.Author.Tests.{le-leb, lt-leb, leb-true, leb-false, eq-eqb, ne_eqb, eqb-true, eqb-false}
 use lib.Dec.{leb, eqb}
 use lib.ListN.{length, get_or, drop}
-use Rattle.hex.specs.Hex.{nibble, bytes_of, present, spells, spelled}
-use Rattle.hex.proofs.Reading.{two, spelled-some, length-spelled}
+use Rattle.hex_digits.specs.Hex.{nibble, bytes_of, present, spells, spelled}
+use Rattle.hex_digits.proofs.Reading.{two, spelled-some, length-spelled}
 use Rattle.parts.specs.Parts.{capture_bytes}
 use Rattle.log_line.specs.Line.{line_digits, writes, screen, refused, by_kind, by_bytes, meaning_of}
 

@@ -9,7 +9,7 @@ use lib.Seq.{take_all, take_at}
 use Rattle.bits.specs.Answer.{Answer, given}
 use Rattle.bits.specs.Answer.{refused as refusal}
 use Rattle.bits.specs.Over.{over}
-use Rattle.hex.specs.Hex.{spelled}
+use Rattle.hex_digits.specs.Hex.{spelled}
 use Rattle.parts.specs.Parts.{capture_bytes}
 use Rattle.log_line.specs.Line.{Meaning, writes, screen, refused, meaning_of}
 use Rattle.log_line.specs.Calls.{Content, writes_of, one_screen, line_told, meaning_told, filled, line_answer, line_bytes, kind_told}

@@ -2,7 +2,7 @@
 use Rattle.std.specs.Prelude.{ℕ, ◌+◌, ◌*◌, cond, List, [], ◌∷◌, leb, eqb, length}
 use Rattle.std.proofs.Math.Option.{Option, none, some}
 use Rattle.parts.specs.Parts.{capture_bytes}
-use Rattle.hex.specs.Hex.{bytes_of}
+use Rattle.hex_digits.specs.Hex.{bytes_of}
 
 -- the digits of the longest line that means something: a line has at most as many writes as a screen has bytes
 abbrev pub line_digits : ℕ

@@ -1,10 +1,11 @@
 // One line of a log: its form, and its bytes. RULES 8.2 and 8.3. Next door: splitting an input into lines (`lines`).
 // The meaning is in specs/: `Line` what a line means, `Calls` what `parse` answers and leaves.
+#![tactic(auto)]
 ghost use Rattle.std.specs.Prelude.{◌≡◌};
 ghost use Rattle.log_line.specs.Line.{meaning_of};
 ghost use Rattle.log_line.specs.Calls.{line_told, line_answer, line_bytes, kind_told};
 
-use hex::{decode, spells, two_digits};
+use hex_digits::{decode, spells, two_digits};
 use parts::CAPTURE_BYTES;
 
 pub mod lines;
@@ -13,7 +14,7 @@ pub mod lines;
 pub const LINE_DIGITS: usize = 2 * (1 + CAPTURE_BYTES);
 
 // What a line is: refused, with its number (RULES 2.1); so many writes; or a screen.
-#[derive(Drop)]
+#[derive(Clone, Copy)]
 pub enum Line {
     Refused(u8),
     Writes(usize),

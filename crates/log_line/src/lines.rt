@@ -8,14 +8,14 @@ use crate::LINE_DIGITS;
 use bits::put;
 
 // How much of the present line is held in the line's buffer; or that it is longer than any line that means something.
-#[derive(Drop)]
+#[derive(Clone, Copy)]
 pub struct Held {
     pub size: usize,
     pub long: bool,
 }
 
 // What is held after a step, and where in the chunk it stopped: at an LF, or at the chunk's end.
-#[derive(Drop)]
+#[derive(Clone, Copy)]
 pub struct Taken {
     pub held: Held,
     pub at: usize,

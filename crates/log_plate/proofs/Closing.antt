@@ -7,7 +7,7 @@ use lib.Seq.{take-nil}
 use Rattle.layout.specs.Block.{load}
 use Rattle.log_text.specs.Text.{refusal_text}
 use Rattle.log_writer.specs.Tally.{tallied, Sent}
-use Rattle.log.specs.Texts.{picture_lines, plate_text}
+use Rattle.log_chunks.specs.Texts.{picture_lines, plate_text}
 use Rattle.log_reading.specs.declared.Reading.{Reading}
 use Rattle.log_reader.specs.Read.{Behind, text_of, ReadWhole, Reached, Printed}
 use Rattle.log_writer.specs.declared.State.{State}

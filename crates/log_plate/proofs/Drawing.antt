@@ -13,8 +13,8 @@ use Rattle.log_text.specs.Text.{row_line}
 use Rattle.log_text.proofs.Printed.{text-lent, length-row_line}
 use Rattle.log_writer.specs.Tally.{tallied, Sent}
 use Rattle.log_writer.proofs.Tallies.{sent-more, sent-cut}
-use Rattle.log.specs.Texts.{row_lines, picture_lines}
-use Rattle.log.proofs.Coded.{row-long}
+use Rattle.log_chunks.specs.Texts.{row_lines, picture_lines}
+use Rattle.log_chunks.proofs.Coded.{row-long}
 
 module _ (b : List ℕ) (t : ℕ) where
   abbrev row : ℕ → List ℕ

@@ -3,7 +3,7 @@ use Rattle.std.specs.Prelude.{ℕ, ◌-◌, Bool, false, List, ◌≡◌}
 use Rattle.layout.specs.Block.{load}
 use Rattle.log_text.specs.Text.{refusal_text}
 use Rattle.log_writer.specs.Tally.{Sent}
-use Rattle.log.specs.Texts.{picture_lines}
+use Rattle.log_chunks.specs.Texts.{picture_lines}
 use Rattle.log_reading.specs.declared.Reading.{Reading}
 use Rattle.log_writer.specs.declared.State.{State}
 use Rattle.log_writer.specs.declared.State.TheVariants.{Well, Failed, Refused}

@@ -1,12 +1,13 @@
 // All that the program `plate` prints of a log: the picture at its end, or the first refused line alone.
 // The reading is in `log_reader`, the writing in `log_writer`.
+#![tactic(auto)]
 ghost use Rattle.std.specs.Prelude.{List, ◌≡◌, ℕ, ◌-◌, ◌≤◌, length};
 ghost use Rattle.layout.specs.Valid.{Valid};
 ghost use Rattle.layout.specs.Block.{load};
 ghost use Rattle.picture.specs.Tables.{TablesOf};
 ghost use Rattle.block_picture.specs.Drawn.{parts_of};
-ghost use Rattle.log.specs.Steps.{desk};
-ghost use Rattle.log.specs.Texts.{picture_lines, plate_text};
+ghost use Rattle.log_chunks.specs.Steps.{desk};
+ghost use Rattle.log_chunks.specs.Texts.{picture_lines, plate_text};
 ghost use Rattle.log_text.specs.Text.{refusal_text};
 ghost use Rattle.log_writer.specs.Tally.{Sent};
 ghost use Rattle.log_reader.specs.Fed.{LentSizes, chunk_bytes, out_bytes};
@@ -89,7 +90,7 @@ fn rows(
 {
     let mut y: usize = 0;
     while y < 224 {
-        log::row_line(block, spreads, border, game, y, words, out);
+        log_chunks::row_line(block, spreads, border, game, y, words, out);
         if !log_writer::write_out(tally, &out[0..1025]) {
             return false;
         }

@@ -8,17 +8,17 @@ use native.Mathlib.Omega.{arith}
 use borrow.Author.Tests.{ltb-false}
 use lib.Dec.{ltb}
 use lib.ListN.{length, take, drop, length-append}
-use Rattle.hex.specs.Hex.{bytes_of}
+use Rattle.hex_digits.specs.Hex.{bytes_of}
 use Rattle.layout.specs.Block.{load}
 use Rattle.layout.specs.Sgb.{Sgb}
 use Rattle.log_line.specs.Line.{meaning_of, by_bytes, by_kind}
 use Rattle.log_line.specs.Lines.{marked_from, last_marked, meaning_marked}
 use Rattle.log_line.specs.Split.{held_as}
-use Rattle.log.specs.Events.{Event, line_events, events_from, write_events, after_writes}
-use Rattle.log.specs.Steps.{Desk, pending, last_lf, to_tell, to_end, Fit}
+use Rattle.log_chunks.specs.Events.{Event, line_events, events_from, write_events, after_writes}
+use Rattle.log_chunks.specs.Steps.{Desk, pending, last_lf, to_tell, to_end, Fit}
 use Rattle.log_reading.specs.declared.Reading.{Reading}
-use Rattle.log.proofs.Prints.{last-tells, last-ends}
-use Rattle.log.proofs.Whole.{all_told, all_done}
+use Rattle.log_chunks.proofs.Prints.{last-tells, last-ends}
+use Rattle.log_chunks.proofs.Whole.{all_told, all_done}
 use Rattle.log_reader.specs.Read.{Behind, Point, tells_from, Begins, Goes, Onward, Finished, Cut, Halted, Stands}
 use Rattle.log_writer.specs.declared.State.{State}
 use Rattle.log_writer.specs.declared.State.TheVariants.{Well, Failed, Refused}

@@ -12,14 +12,14 @@ use Rattle.bits.specs.Over.{over}
 use Rattle.parts.specs.Parts.{capture_bytes}
 use Rattle.log_text.proofs.Printed.{text-lent}
 use Rattle.log_writer.specs.Tally.{tallied, Sent}
-use Rattle.log.specs.Events.{Event}
-use Rattle.log.specs.Texts.{shown}
-use Rattle.log.specs.Steps.{Desk, Filling, fill, Full, left, step_room, to_tell, Fit}
-use Rattle.log.specs.declared.Filled.{Filled}
+use Rattle.log_chunks.specs.Events.{Event}
+use Rattle.log_chunks.specs.Texts.{shown}
+use Rattle.log_chunks.specs.Steps.{Desk, Filling, fill, Full, left, step_room, to_tell, Fit}
+use Rattle.log_chunks.specs.declared.Filled.{Filled}
 use Rattle.log_reading.specs.declared.Reading.{Reading}
-use Rattle.log.proofs.Fills.{Tells}
-use Rattle.log.proofs.Fulls.{full-reading, full_at, full_size, full-refused, full-fit, full-within, full-numbered, full-less}
-use Rattle.log.proofs.Prints.{Shape, fill_on, tells_on, fill_shape}
+use Rattle.log_chunks.proofs.Fills.{Tells}
+use Rattle.log_chunks.proofs.Fulls.{full-reading, full_at, full_size, full-refused, full-fit, full-within, full-numbered, full-less}
+use Rattle.log_chunks.proofs.Prints.{Shape, fill_on, tells_on, fill_shape}
 use Rattle.log_reader.specs.Fed.{Kept}
 use Rattle.log_reader.specs.Read.{text_of, Unrefused, Stopped, is_well, ToldAs, Point, point, Goes, Onward, Cut, Halted, Stands}
 use Rattle.log_reader.specs.declared.Fed.{Fed}

@@ -14,11 +14,11 @@ use Rattle.layout.proofs.Freshes.{fresh-good}
 use Rattle.layout.proofs.Goods.{saved-valid}
 use Rattle.log_writer.specs.Tally.{tallied}
 use Rattle.log_text.specs.Text.{refusal_text}
-use Rattle.log.specs.Events.{Event, events_of, unit_after}
-use Rattle.log.specs.Texts.{refused_or, picture_lines, plate_text}
-use Rattle.log.specs.Steps.{Desk, desk, begun, to_end, Fit}
+use Rattle.log_chunks.specs.Events.{Event, events_of, unit_after}
+use Rattle.log_chunks.specs.Texts.{refused_or, picture_lines, plate_text}
+use Rattle.log_chunks.specs.Steps.{Desk, desk, begun, to_end, Fit}
 use Rattle.log_reading.specs.declared.Reading.{Reading}
-use Rattle.log.proofs.Whole.{begins, begins-end}
+use Rattle.log_chunks.proofs.Whole.{begins, begins-end}
 use Rattle.log_reader.specs.Fed.{LentSizes}
 use Rattle.log_reader.specs.Read.{text_of, Unrefused, Behind, reads_on, Point, point, tells_from, Begins, Goes, Onward, Finished, Cut, Halted, Stands, Turned, ReadWhole, Reached}
 use Rattle.log_reader.specs.declared.Read.{Read}

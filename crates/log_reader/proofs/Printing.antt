@@ -7,10 +7,10 @@ use lib.ListN.{length, take, drop, take-append-drop}
 use lib.Seq.{take_at, take-append-add}
 use Rattle.log_writer.specs.Tally.{tallied}
 use Rattle.log_writer.proofs.Tallies.{tallied-append}
-use Rattle.log.specs.Events.{Event}
-use Rattle.log.specs.Texts.{shown, refused_or}
-use Rattle.log.proofs.Prints.{Shape, passes, refused-first}
-use Rattle.log.proofs.Turns.{shown-append}
+use Rattle.log_chunks.specs.Events.{Event}
+use Rattle.log_chunks.specs.Texts.{shown, refused_or}
+use Rattle.log_chunks.proofs.Prints.{Shape, passes, refused-first}
+use Rattle.log_chunks.proofs.Turns.{shown-append}
 use Rattle.log_reader.specs.Read.{text_of, Unrefused, Stopped}
 
 pub text_none : (quiet : Bool) → text_of quiet [] ≡ []

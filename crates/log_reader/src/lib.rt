@@ -1,9 +1,10 @@
 // Reading a log from standard input, chunk by chunk, and writing what it tells. Both programs stand on it: `replay` writes the text of
 // each fill, `plate` is quiet up to its end. What is told stands in the contracts of `log`, what is written in the lent tally of
 // `log_writer`; here are the calls of `read`.
+#![tactic(auto)]
 ghost use Rattle.std.specs.Prelude.{false, List, [], ◌≡◌, ℕ, ◌+◌, ◌≤◌, length, take};
 ghost use Rattle.layout.specs.Valid.{Valid};
-ghost use Rattle.log.specs.Steps.{Fit, desk};
+ghost use Rattle.log_chunks.specs.Steps.{Fit, desk};
 ghost use Rattle.log_reader.specs.Fed.{LentSizes, Kept, chunk_bytes, out_bytes, most_lines, most_bytes};
 ghost use Rattle.log_reader.specs.Read.{point, is_well, reads_on, Stands, Turned, Reached};
 
@@ -17,14 +18,14 @@ pub const CHUNK_BYTES: usize = 1024;
 pub const OUT_BYTES: usize = 1280;
 
 // After a chunk.
-#[derive(Drop)]
+#[derive(Clone, Copy)]
 pub struct Fed {
     pub reading: Reading,
     pub state: State,
 }
 
 // After reads: how many bytes came, and whether the input has ended.
-#[derive(Drop)]
+#[derive(Clone, Copy)]
 pub struct Read {
     pub reading: Reading,
     pub state: State,
@@ -33,7 +34,7 @@ pub struct Read {
 }
 
 // What a program printed: how many bytes of the input came, whether that was all of it, and whether all that is due was written.
-#[derive(Drop)]
+#[derive(Clone, Copy)]
 pub struct Print {
     pub got: u64,
     pub ended: bool,
@@ -198,7 +199,7 @@ fn feed(
     let mut reading = start;
     let mut at = 0;
     while log_reading::is_left(reading, chunk.len(), at) {
-        let f = log::fill(reading, block, line, bytes, command, chunk, at, out);
+        let f = log_chunks::fill(reading, block, line, bytes, command, chunk, at, out);
         let size = f.size;
         at = f.at;
         let next = f.reading;

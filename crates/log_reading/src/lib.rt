@@ -1,5 +1,6 @@
 // Where a reading of a log stands: how it begins, whether there is more to do, and what a last line lacks. Its steps are in the crate
 // `log`.
+#![tactic(auto)]
 ghost use Rattle.std.specs.Prelude.{◌≡◌, ltb, length};
 ghost use Rattle.log_reading.specs.Point.{begun, left, last_lf};
 
@@ -7,7 +8,7 @@ use log_line::lines::Held;
 
 // Where a reading stands: the line that is held so far, the number of the next line to end, and the part of the decoded writes that is
 // still to be played.
-#[derive(Drop)]
+#[derive(Clone, Copy)]
 pub struct Reading {
     pub held: Held,
     pub number: u64,

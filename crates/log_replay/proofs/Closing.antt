@@ -11,8 +11,8 @@ use Rattle.layout.specs.Valid.{Valid}
 use Rattle.layout.proofs.Saved.{clauses, save-load}
 use Rattle.log_writer.specs.Tally.{tallied, Sent}
 use Rattle.log_writer.proofs.Tallies.{sent-last}
-use Rattle.log.specs.Events.{events_of, unit_after}
-use Rattle.log.specs.Texts.{shown, head_line, replay_text}
+use Rattle.log_chunks.specs.Events.{events_of, unit_after}
+use Rattle.log_chunks.specs.Texts.{shown, head_line, replay_text}
 use Rattle.log_reading.specs.declared.Reading.{Reading}
 use Rattle.log_reader.specs.Read.{Behind, text_of, is_well, Reached, Printed}
 use Rattle.log_writer.specs.declared.State.{State}

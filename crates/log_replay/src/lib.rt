@@ -1,9 +1,10 @@
 // All that the program `replay` prints of a log: its commands and refused lines as they are read, and at its end the block's first 13 bytes.
 // The reading is in `log_reader`, the writing in `log_writer`.
+#![tactic(auto)]
 ghost use Rattle.std.specs.Prelude.{List, ◌≡◌, ℕ, length};
 ghost use Rattle.layout.specs.Valid.{Valid};
-ghost use Rattle.log.specs.Steps.{desk};
-ghost use Rattle.log.specs.Texts.{head_line, replay_text};
+ghost use Rattle.log_chunks.specs.Steps.{desk};
+ghost use Rattle.log_chunks.specs.Texts.{head_line, replay_text};
 ghost use Rattle.log_writer.specs.Tally.{Sent};
 ghost use Rattle.log_reader.specs.Fed.{LentSizes, chunk_bytes, out_bytes};
 ghost use Rattle.log_reader.specs.Read.{Printed};
@@ -44,6 +45,6 @@ fn head(tally: &mut u64, block: &[u8], out: &mut [u8]) -> bool
     requires { Valid block.now × (length out.old ≡ out_bytes) }
     ensures { Sent result tally.old (head_line block.now) tally.new }
 {
-    let n = log::head_line(block, out);
+    let n = log_chunks::head_line(block, out);
     log_writer::write_out(tally, &out[0..n])
 }

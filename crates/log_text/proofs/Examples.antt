@@ -2,7 +2,7 @@
 use mathlib.Core.Path.{◌≡◌, refl}
 use mathlib.Core.List.{[], ◌∷◌}
 use Rattle.bits.specs.Word.{low_byte, high_byte}
-use Rattle.hex.specs.Hex.{capital, hex_text}
+use Rattle.hex_digits.specs.Hex.{capital, hex_text}
 use Rattle.log_text.specs.Text.{hex_line, places_from, decimal_text, refusal_of, refusal_text, word_text, words_text, row_line}
 
 -- `00000001000100000101000000`

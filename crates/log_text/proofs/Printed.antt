@@ -10,8 +10,8 @@ use lib.Seq.{take_at, take-suc, take-length, length-take-le}
 use Rattle.bits.specs.Over.{over}
 use Rattle.bits.specs.Word.{low_byte, high_byte}
 use Rattle.bits.proofs.Overs.{over-over, set-over}
-use Rattle.hex.specs.Hex.{hex_text}
-use Rattle.hex.proofs.Writing.{length-hex_text}
+use Rattle.hex_digits.specs.Hex.{hex_text}
+use Rattle.hex_digits.proofs.Writing.{length-hex_text}
 use Rattle.log_text.specs.Text.{lf, hex_line, decimal_text, number_line, refusal_of, word_text, words_text, row_line}
 
 -- ---- a text at the front of an output

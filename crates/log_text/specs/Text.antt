@@ -2,7 +2,7 @@
 use Rattle.std.specs.Prelude.{ℕ, zero, suc, ◌^◌, cond, List, [], ◌∷◌, ◌++◌, ltb}
 use Rattle.io.specs.Digits.{last_digits}
 use Rattle.bits.specs.Word.{low_byte, high_byte}
-use Rattle.hex.specs.Hex.{hex_text}
+use Rattle.hex_digits.specs.Hex.{hex_text}
 
 -- the end of a line
 abbrev pub lf : List ℕ

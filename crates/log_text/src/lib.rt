@@ -1,11 +1,12 @@
 // The lines that the programs print, a command, a number, a refused line, a row of the picture; and a number in decimal. RULES 8.5 to 8.8.
 // Nothing here writes to anywhere but the lent text; the meaning is in specs/Text.
+#![tactic(auto)]
 ghost use Rattle.std.specs.Prelude.{◌≡◌, ◌+◌, ◌*◌, ◌≤◌, length};
 ghost use Rattle.bits.specs.Over.{over};
 ghost use Rattle.log_text.specs.Text.{hex_line, decimal_text, number_line, refusal_text, word_text, row_line};
 
 use bits::{high_byte, low_byte, put};
-use hex::{spell, spell_byte};
+use hex_digits::{spell, spell_byte};
 
 // Bytes in upper-case hexadecimal, and LF, from `at` on. Answers the text's length.
 pub fn command_line(command: &[u8], out: &mut [u8], at: usize) -> usize

@@ -1,6 +1,7 @@
 // Text written to standard output, and how a reading stands behind it. What `write` took is kept in one lent number, the tally: the kit's
 // contract of `write` says how many bytes it took and nothing of which, so that a contract can name what was printed only by a value that
 // the code carries.
+#![tactic(auto)]
 ghost use Rattle.std.specs.Prelude.{◌≡◌, ◌≤◌, length, take};
 ghost use Rattle.log_writer.specs.Tally.{tallied, Sent};
 ghost use Rattle.log_writer.specs.Told.{ToldAs};
@@ -10,7 +11,7 @@ use std::num::wrapping_add_u64;
 
 // All that came is told; a read or a write failed, which has been said; a quiet reading came to a refused line, the one before the
 // reading's next.
-#[derive(Drop)]
+#[derive(Clone, Copy)]
 pub enum State {
     Well,
     Failed,

@@ -1,5 +1,6 @@
 // `page`: a page on standard input; on standard output the picture of the screen that carries it, or `10`. What is printed stands in the
 // contract of `pages_drawn::draw`; here are the buffers that it is lent.
+#![tactic(auto)]
 
 fn main() {
     let mut tally: u64 = 0;

@@ -1,5 +1,6 @@
 // Where everything stands in the unit block and how long it is (RULES 1.4 and 1.5): the numbers of specs/Parts as code has
 // them. A size is given, and a part starts where the one before it ends.
+#![tactic(auto)]
 
 pub const MASK: usize = 0;
 

@@ -1,5 +1,6 @@
 // `plate`: a log on standard input; the picture at its end on standard output, 224 lines of 256 words, or the first refused line alone.
 // What is printed stands in the contract of `log_plate::plate`; here are the buffers that it is lent.
+#![tactic(auto)]
 
 fn main() {
     let mut tally: u64 = 0;

@@ -1,6 +1,7 @@
 // Commands as pulses and back: the encoder, and the verdict whether a command conforms.
 // RULES 7. Next door: one packet's pulses (`packet`), the rule of the verdict (`rule`). The meaning is in specs/,
 // the round trip in proofs/Returns.
+#![tactic(auto)]
 ghost use Rattle.std.specs.Prelude.{◌≡◌};
 ghost use Rattle.pulses.specs.Bytes.{command_packets};
 ghost use Rattle.pulses.specs.Encode.{Encodes};
@@ -14,7 +15,7 @@ pub mod packet;
 pub mod rule;
 
 // What the encoder answers: the command is malformed (refusal 5), the output is short (refusal 6), or this many writes.
-#[derive(Drop)]
+#[derive(Clone, Copy)]
 pub enum Encoded {
     Malformed,
     Short,
@@ -22,7 +23,7 @@ pub enum Encoded {
 }
 
 // What the verdict is: the command is malformed (refusal 5), it conforms, or it doesn't.
-#[derive(Drop)]
+#[derive(Clone, Copy)]
 pub enum Conformance {
     Malformed,
     Conforms,

@@ -1,6 +1,7 @@
 // The packet receiver, by value: what a write to the joypad register does to the packet that is coming in.
 // RULES 3.3 to 3.8; Pan Docs, Command packet transfers. Next door: the packets that are in (`store`), the lines (`lines`).
 // The meaning is in specs/Receive; which receivers are valid, V3, in specs/Valid.
+#![tactic(auto)]
 ghost use Rattle.std.specs.Prelude.{◌≡◌, ◌<◌, true};
 ghost use Rattle.receiver.specs.Count.{count_of};
 ghost use Rattle.receiver.specs.Lines.{pulse_of};
@@ -9,7 +10,7 @@ ghost use Rattle.receiver.specs.Receive.{rx_of, step_of, idle, restarted, data_b
 pub mod lines;
 pub mod store;
 
-#[derive(Drop)]
+#[derive(Clone, Copy)]
 pub enum Stage {
     Idle,
     Receiving,
@@ -17,7 +18,7 @@ pub enum Stage {
 }
 
 // The packet of sixteen bytes is two words, so that a data bit is one shift: as arrays it took ten times as long.
-#[derive(Drop)]
+#[derive(Clone, Copy)]
 pub struct Receiver {
     pub stage: Stage,
     pub expected: u8,
@@ -28,7 +29,7 @@ pub struct Receiver {
 }
 
 // What a pulse completes: nothing; a packet, for this place of the store; or a command of this many packets, the last at hand.
-#[derive(Drop)]
+#[derive(Clone, Copy)]
 pub enum Done {
     Nothing,
     Packet(u8),
@@ -36,7 +37,7 @@ pub enum Done {
 }
 
 // The receiver after a pulse, and what the pulse completed.
-#[derive(Drop)]
+#[derive(Clone, Copy)]
 pub struct Written {
     pub next: Receiver,
     pub done: Done,

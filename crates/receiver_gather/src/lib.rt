@@ -1,11 +1,12 @@
 // Data pulses by the word: 64 of them, four at a time, as long as each has its release.
+#![tactic(auto)]
 ghost use Rattle.std.specs.Prelude.{◌≤◌, length};
 ghost use Rattle.receiver_gather.specs.Words.{Gave};
 
 use bits_eight::eight;
 
 // Pulses that were taken: their bits as a number, how many, the ones among them, and the place after them.
-#[derive(Drop)]
+#[derive(Clone, Copy)]
 pub struct Gathered {
     pub word: u64,
     pub count: u8,

@@ -1,5 +1,6 @@
 // A run of writes over one receiver that is held in locals, until a command completes or the writes end.
 // RULES 3. What it does to the block, and the command it completes, are the caller's: the packet store alone is lent.
+#![tactic(auto)]
 ghost use Rattle.std.specs.Prelude.{◌≡◌};
 ghost use Rattle.receiver_run.specs.Run.{runs, port_of, ended_of, Ready};
 
@@ -8,7 +9,7 @@ use receiver::lines::{both_high, index_after, p15_high};
 use receiver::store::file;
 
 // The lines and the joypad index between two writes.
-#[derive(Drop)]
+#[derive(Clone, Copy)]
 pub struct Lines {
     pub p15: bool,
     pub both: bool,
@@ -16,7 +17,7 @@ pub struct Lines {
 }
 
 // Where a run ended: after `at` writes, with a command of `packets` packets in the store, or with 0 at the end of the writes.
-#[derive(Drop)]
+#[derive(Clone, Copy)]
 pub struct Ran {
     pub rx: Receiver,
     pub lines: Lines,

@@ -1,8 +1,9 @@
 // A refusal, as every call over a block tells it and as it crosses to C (RULES 2.1): one number.
+#![tactic(auto)]
 ghost use Rattle.std.specs.Prelude.{◌≡◌, ◌/◌, ◌%◌};
 
 // The refusal's own number is the low byte, and where it comes with an offset that stands above it. 0 where nothing is refused.
-#[derive(Drop)]
+#[derive(Clone, Copy)]
 pub struct Refusal(pub u32);
 
 impl Refusal {

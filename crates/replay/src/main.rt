@@ -1,5 +1,6 @@
 // `replay`: a log on standard input; its commands, its refused lines and the block's first 13 bytes on standard output.
 // What is printed stands in the contract of `log_replay::replay`; here are the buffers that it is lent.
+#![tactic(auto)]
 
 fn main() {
     let mut tally: u64 = 0;

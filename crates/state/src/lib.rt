@@ -1,6 +1,7 @@
 // States exchanged with the emulator (RULES 11): a state of its own form becomes a block, and a block such a state. Rust: `from_state`, and
 // `write_state` with `capture_memory`. Neither asks anything of its caller, and a refusal changes no lent byte. The meaning is `Coming` and
 // `Going` in the crate `state_spans`; the steps are `state_in` and `state_out`.
+#![tactic(auto)]
 ghost use Rattle.std.specs.Prelude.{◌≡◌, true, ◌&&◌, cond, eqb, length};
 ghost use Rattle.broken.specs.Broken.{broken, broken_number};
 ghost use Rattle.parts.specs.Parts.{block_bytes};

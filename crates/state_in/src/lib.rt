@@ -1,6 +1,7 @@
 // A state of the emulator that comes in, step by step (RULES 11.4 and 11.5): what stands before the block's palettes, with the rules that it is held
 // to, and the parts of the block. How long its spans are is the crate `state_fits`, and the call that refuses `state`. The meaning is `Coming` in
 // the crate `state_spans`.
+#![tactic(auto)]
 ghost use Rattle.std.specs.Prelude.{◌≡◌, true, cond, [], ◌∷◌, ◌-◌, ◌*◌, ◌≤◌, length, get_or, replicate};
 ghost use Rattle.std.proofs.Math.Option.{none, some};
 ghost use Rattle.bits.specs.Over.{over};

@@ -1,6 +1,7 @@
 // What the stored rounds send and show (`test_stored`), made from seeds: commands, faults, idle writes (`writes`) and `screens`.
 // Chance goes by one step of xorshift: the same numbers on every machine, and nothing that could overflow. tools/oracle/stored.rs
 // runs the Rust on the same, by way of the crate `test_probe`: a change here asks for a new list.
+#![tactic(auto)]
 ghost use Rattle.std.specs.Prelude.{◌<◌};
 
 pub mod screens;

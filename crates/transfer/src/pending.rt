@@ -3,7 +3,7 @@
 ghost use Rattle.std.specs.Prelude.{◌≡◌};
 ghost use Rattle.transfer.specs.Pending.{number_of, pending_of, countdown_of, kind_of, fallen, lands};
 
-#[derive(Drop)]
+#[derive(Clone, Copy)]
 pub enum Transfer {
     Palettes,
     Attributes,
@@ -12,14 +12,14 @@ pub enum Transfer {
     BorderMap,
 }
 
-#[derive(Drop)]
+#[derive(Clone, Copy)]
 pub enum Pending {
     Nothing,
     In { countdown: u8, transfer: Transfer },
 }
 
 // What a screen made land.
-#[derive(Drop)]
+#[derive(Clone, Copy)]
 pub enum Landed {
     Nothing,
     Page(Transfer),

@@ -1,6 +1,7 @@
 // The public calls that change a block: a joypad write, writes in a row, a screen, and the fresh blocks; and the check of a saved one.
 // Rust: `write_joypad`, `update_screen`, `new`, `post_boot`. None asks anything of its caller, and a refusal changes no lent byte.
 // The meaning is in specs/Calls. The workers below them (the crates `block_..`) require a valid block and leave one, so that a long run checks once.
+#![tactic(auto)]
 ghost use Rattle.std.specs.Prelude.{◌≡◌};
 ghost use Rattle.bits.specs.Answer.{given};
 ghost use Rattle.view.specs.Refusal.{refusal_of};
@@ -12,7 +13,7 @@ use refusal::Refusal;
 use transfer::pending::Landed;
 
 // What a write answers: a refusal, nothing, or that a command of this many packets stands at the front of the buffer.
-#[derive(Drop)]
+#[derive(Clone, Copy)]
 pub enum Written {
     Refused(Refusal),
     Nothing,
@@ -21,7 +22,7 @@ pub enum Written {
 
 // What writes in a row answer: a refusal; how many were taken, where none completed a command; or how many were taken and the packets of
 // the command that the last of them completed.
-#[derive(Drop)]
+#[derive(Clone, Copy)]
 pub enum Played {
     Refused(Refusal),
     Took(usize),
@@ -32,7 +33,7 @@ pub enum Played {
 pub const PLAY_MOST: usize = 1048576;
 
 // What a screen answers: a refusal, or what landed.
-#[derive(Drop)]
+#[derive(Clone, Copy)]
 pub enum Shown {
     Refused(Refusal),
     Took(Landed),

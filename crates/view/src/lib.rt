@@ -3,6 +3,7 @@
 // (4, 6).
 // A refusal changes no lent byte. The meaning is in specs/Looks, with the refusals inside. Each call tests, and then asks a worker of
 // `block_picture`, which takes a valid block and refuses nothing; whoever looks at one block many times asks `refusal` once and then the workers.
+#![tactic(auto)]
 ghost use Rattle.std.specs.Prelude.{◌≡◌};
 ghost use Rattle.pulses.specs.Answer.{given};
 ghost use Rattle.border.specs.Border.{colour_of};
@@ -16,25 +17,25 @@ use colour::{BorderMapEntry, Rgb555};
 use refusal::Refusal;
 
 // A refusal, or a number that was asked for.
-#[derive(Drop)]
+#[derive(Clone, Copy)]
 pub enum Number {
     Refused(Refusal),
     Is(usize),
 }
 
-#[derive(Drop)]
+#[derive(Clone, Copy)]
 pub enum Colour {
     Refused(Refusal),
     Is(Rgb555),
 }
 
-#[derive(Drop)]
+#[derive(Clone, Copy)]
 pub enum Entry {
     Refused(Refusal),
     Is(BorderMapEntry),
 }
 
-#[derive(Drop)]
+#[derive(Clone, Copy)]
 pub enum Border {
     Refused(Refusal),
     Transparent,

@@ -5,7 +5,7 @@ use mathlib.Core.List.{List}
 use native.Mathlib.Omega.{arith}
 use borrow.Author.Rules.{rules}
 use lib.ListN.{length, take, drop}
-use Rattle.log.specs.Steps.{desk, left}
+use Rattle.log_chunks.specs.Steps.{desk, left}
 use Rattle.log_reader.specs.Fed.{out_bytes}
 use Rattle.log_reading.specs.declared.Reading.{Reading}
 use Rattle.bench_jobs.proofs.Chunks.{Within, begun-fit, part_is, within_on, ends-within, left-falls}

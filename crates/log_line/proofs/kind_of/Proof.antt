@@ -6,8 +6,8 @@ use mathlib.Core.List.{List}
 use native.Mathlib.Omega.{arith}
 use borrow.Author.Tests.{not-true, not-false}
 use lib.ListN.{length}
-use Rattle.hex.specs.Hex.{spells}
-use Rattle.hex.proofs.Reading.{digit_at}
+use Rattle.hex_digits.specs.Hex.{spells}
+use Rattle.hex_digits.proofs.Reading.{digit_at}
 use Rattle.log_line.specs.Calls.{kind_told}
 use Rattle.log_line.proofs.Form.{kind_byte, too_short, refused_too_long, not-spelled, some-writes, a-screen, short-screen, other-kind}
 use Rattle.log_line.proofs.kind_of.Statement.{statement}

@@ -2,7 +2,7 @@
 use Prim.Native.Nat.{◌≤◌}
 use native.Mathlib.Omega.{arith}
 use lib.ListN.{length, drop, length-take, length-drop}
-use Rattle.hex.specs.Hex.{spelled}
+use Rattle.hex_digits.specs.Hex.{spelled}
 use Rattle.parts.specs.Parts.{capture_bytes}
 use Rattle.log_line.proofs.Form.{Body}
 use Rattle.log_line.proofs.Told.{kind-refused, kind-body, kind_fits, kind-screen, kind-writes, past-kind}

@@ -5,7 +5,7 @@ use mathlib.Core.Path.{ap}
 use Prim.Native.Nat.{ℕ}
 use native.Mathlib.Omega.{arith}
 use lib.ListN.{length, length-take}
-use Rattle.log.specs.Steps.{desk}
+use Rattle.log_chunks.specs.Steps.{desk}
 use Rattle.log_reader.specs.Read.{point}
 use Rattle.log_reader.proofs.Ending.{last-part, last-short, outcome-ends}
 use Rattle.log_reader.proofs.finish.Statement.{statement}

@@ -5,7 +5,7 @@ use Prim.Native.Nat.{◌+◌, ◌*◌, ◌-◌, ◌≤◌}
 use borrow.Author.Tests.{not-true, not-false}
 use native.Mathlib.Omega.{arith}
 use lib.ListN.{length}
-use Rattle.log.specs.Steps.{begun, desk}
+use Rattle.log_chunks.specs.Steps.{begun, desk}
 use Rattle.log_reading.specs.declared.Reading.{Reading}
 use Rattle.log_reader.specs.Fed.{LentSizes, chunk_bytes, out_bytes, most_bytes}
 use Rattle.log_reader.specs.Read.{point}

@@ -3,7 +3,7 @@ use borrow.Author.Rules.{rules}
 use Prim.Native.Nat.{◌-◌}
 use native.Mathlib.Omega.{arith}
 use lib.ListN.{length-take}
-use Rattle.log.specs.Steps.{desk}
+use Rattle.log_chunks.specs.Steps.{desk}
 use Rattle.log_reader.specs.Read.{point}
 use Rattle.log_reader.proofs.Outcomes.{cut_none}
 use Rattle.log_reader.proofs.turn.Statement.{statement}

@@ -5,7 +5,7 @@ use mathlib.Core.Path.{◌≡◌, sym, ap, ◌∙◌, subst}
 use Prim.Native.Nat.{ℕ}
 use native.Mathlib.Omega.{arith}
 use Rattle.bits.specs.Over.{over}
-use Rattle.log.specs.Texts.{head_line}
+use Rattle.log_chunks.specs.Texts.{head_line}
 use Rattle.log_writer.specs.Tally.{Sent}
 use Rattle.log_text.proofs.Printed.{text-lent}
 use Rattle.log_replay.proofs.head.Statement.{statement}

@@ -1,0 +1,307 @@
+// A log read in chunks of any size: its lines, what they do to the unit, and the text of it. Nothing here reads or writes: the caller
+// feeds chunks and writes out the text that each call gives. RULES 8. The meaning of the whole is in specs/Events
+// and specs/Texts, the steps are in specs/Steps, and that the steps tell the whole is in proofs/.
+#![tactic(auto)]
+ghost use Rattle.std.specs.Prelude.{◌≡◌, ◌+◌, ◌*◌, ◌≤◌, ◌<◌, ltb, length, take, []};
+ghost use Rattle.parts.specs.Parts.{capture_bytes, store_bytes};
+ghost use Rattle.layout.specs.Valid.{Valid};
+ghost use Rattle.log_text.specs.Text.{hex_line, row_line};
+ghost use Rattle.log_line.specs.Line.{line_digits};
+ghost use Rattle.log_chunks.specs.Steps.{fill, desk, told_of, ran_on, answer_of, ended, stepped, Fit, goes_on, step_room, ToldFits, Said, Full, is_refused, told_by, next_line, most64};
+ghost use Rattle.layout.specs.Block.{load};
+ghost use Rattle.picture.specs.Picture.{row_of};
+ghost use Rattle.picture.specs.Tables.{TablesOf};
+ghost use Rattle.block_picture.specs.Drawn.{parts_of};
+ghost use Rattle.log_chunks.specs.Texts.{shown, head_bytes, head_line};
+ghost use Rattle.bits.specs.Over.{over};
+
+use block_screen::show;
+use block_writes::play;
+use log_line::lines::{Held, split};
+use log_line::{Line, parse};
+use log_reading::Reading;
+use log_text::{command_line, refusal_line};
+
+// The room that the longest text of a step needs: a command of 112 bytes has 225.
+const STEP_ROOM: usize = 256;
+
+// What a step has to tell: nothing, a command of so many packets that stands in the buffer, or that the line before the next is refused.
+#[derive(Clone, Copy)]
+enum Told {
+    Nothing,
+    Command(u8),
+    Refused,
+}
+
+// The reading after a step, how far the chunk is used up, and what is told.
+#[derive(Clone, Copy)]
+struct Step {
+    reading: Reading,
+    at: usize,
+    told: Told,
+}
+
+// The reading after steps, how far the chunk is used up, the bytes of text, and whether the last step refused a line.
+#[derive(Clone, Copy)]
+pub struct Filled {
+    pub reading: Reading,
+    pub at: usize,
+    pub size: usize,
+    pub refused: bool,
+}
+
+fn told_of(packets: u8) -> Told
+    ensures { result ≡ told_of packets }
+{
+    if packets == 0 {
+        return Told::Nothing;
+    }
+    Told::Command(packets)
+}
+
+// The decoded writes, up to the next command.
+fn play_on(reading: Reading, block: &mut [u8], bytes: &[u8], command: &mut [u8], at: usize) -> Step
+    requires valid { Valid block.old × ((length bytes.now ≡ capture_bytes) × (store_bytes ≤ length command.old)) }
+    requires from_le_upto { (reading.from ≤ reading.upto) × (reading.upto ≤ capture_bytes) }
+    ensures value { result ≡ answer_of (ran_on reading (desk block.old [] bytes.now command.old) at) }
+    ensures block_after { block.new ≡ (ran_on reading (desk block.old [] bytes.now command.old) at).desk.block }
+    ensures command_after { command.new ≡ (ran_on reading (desk block.old [] bytes.now command.old) at).desk.command }
+{
+    let from = reading.from;
+    let upto = reading.upto;
+    let p = play(block, &bytes[from..upto], command);
+    let held = reading.held;
+    Step {
+        reading: Reading {
+            held: held,
+            number: reading.number,
+            from: from + p.at,
+            upto: upto,
+        },
+        at: at,
+        told: told_of(p.packets),
+    }
+}
+
+// Whether a fill goes on: up to a refused line, while the next text has room, and while anything is left.
+fn goes_on(so_far: Filled, size: usize, room: usize) -> bool
+    requires { so_far.size ≤ room }
+    ensures { result ≡ goes_on so_far.refused so_far.size so_far.reading so_far.at size room }
+{
+    if so_far.refused {
+        return false;
+    }
+    if room - so_far.size < STEP_ROOM {
+        return false;
+    }
+    let reading = so_far.reading;
+    log_reading::is_left(reading, size, so_far.at)
+}
+
+// The text of what a step tells, from `at` on. Answers its length.
+fn tell(step: Step, command: &[u8], out: &mut [u8], at: usize) -> usize
+    requires told_fits { ToldFits step.told × ((store_bytes ≤ length command.now) × (1 ≤ step.reading.number)) }
+    requires step_room_in_bounds { at + step_room ≤ length out.old }
+    ensures value { result ≡ length (shown (told_by step.told step.reading command.now)) }
+    ensures upper_bound { result ≤ step_room }
+    ensures out_after { out.new ≡ over at (length (shown (told_by step.told step.reading command.now))) (shown (told_by step.told step.reading command.now)) out.old }
+{
+    let told = step.told;
+    match told {
+        Told::Nothing => 0,
+        Told::Command(n) => tell_command(n, command, out, at),
+        Told::Refused => refusal_line(step.reading.number - 1, out, at),
+    }
+}
+
+fn tell_command(n: u8, command: &[u8], out: &mut [u8], at: usize) -> usize
+    requires n_bound { (n < 8) × (store_bytes ≤ length command.now) }
+    requires step_room_in_bounds { at + step_room ≤ length out.old }
+    ensures value { result ≡ length (hex_line (take (16 * n) command.now)) }
+    ensures upper_bound { result ≤ step_room }
+    ensures out_after { out.new ≡ over at (length (hex_line (take (16 * n) command.now))) (hex_line (take (16 * n) command.now)) out.old }
+{
+    let end = 16 * bits::wide(n);
+    command_line(&command[0..end], out, at)
+}
+
+// The reading behind a line that has ended, with n writes to play.
+fn behind(reading: Reading, at: usize, n: usize, told: Told) -> Step
+    requires { reading.number < most64 }
+    ensures { result ≡ record { reading = next_line reading n; at = at; told = told } }
+{
+    Step {
+        reading: Reading {
+            held: Held {
+                size: 0,
+                long: false,
+            },
+            number: reading.number + 1,
+            from: 0,
+            upto: n,
+        },
+        at: at,
+        told: told,
+    }
+}
+
+// The line that is held has ended.
+fn end_line(reading: Reading, block: &mut [u8], line: &[u8], bytes: &mut [u8], at: usize) -> Step
+    requires valid { Valid block.old × ((length line.now ≡ line_digits) × (length bytes.old ≡ capture_bytes)) }
+    requires size_le_line_digits { (reading.held.size ≤ line_digits) × (reading.number < most64) }
+    ensures value { result ≡ answer_of (ended reading (desk block.old line.now bytes.old []) at) }
+    ensures block_after { block.new ≡ (ended reading (desk block.old line.now bytes.old []) at).desk.block }
+    ensures bytes_after { bytes.new ≡ (ended reading (desk block.old line.now bytes.old []) at).desk.bytes }
+{
+    let held = reading.held;
+    if held.long {
+        return behind(reading, at, 0, Told::Refused);
+    }
+    let size = held.size;
+    let m = parse(&line[0..size], bytes);
+    match m {
+        Line::Refused(_) => behind(reading, at, 0, Told::Refused),
+        Line::Writes(n) => behind(reading, at, n, Told::Nothing),
+        Line::Screen => {
+            show(block, bytes);
+            behind(reading, at, 0, Told::Nothing)
+        }
+    }
+}
+
+// One step: the decoded writes up to the next command, or the chunk up to the next line's end.
+fn take_step(
+    reading: Reading,
+    block: &mut [u8],
+    line: &mut [u8],
+    bytes: &mut [u8],
+    command: &mut [u8],
+    chunk: &[u8],
+    at: usize,
+) -> Step
+    requires fit { Fit reading (desk block.old line.old bytes.old command.old) }
+    requires number_lt_most64 { (reading.number < most64) × ((at ≤ length chunk.now) × (length chunk.now < most64)) }
+    ensures value { result ≡ answer_of (stepped reading (desk block.old line.old bytes.old command.old) chunk.now at) }
+    ensures block_after { block.new ≡ (stepped reading (desk block.old line.old bytes.old command.old) chunk.now at).desk.block }
+    ensures line_after { line.new ≡ (stepped reading (desk block.old line.old bytes.old command.old) chunk.now at).desk.line }
+    ensures bytes_after { bytes.new ≡ (stepped reading (desk block.old line.old bytes.old command.old) chunk.now at).desk.bytes }
+    ensures command_after { command.new ≡ (stepped reading (desk block.old line.old bytes.old command.old) chunk.now at).desk.command }
+{
+    if reading.from < reading.upto {
+        return play_on(reading, block, bytes, command, at);
+    }
+    let held = reading.held;
+    let t = split(held, line, chunk, at);
+    let after = t.held;
+    let now = Reading {
+        held: after,
+        number: reading.number,
+        from: 0,
+        upto: 0,
+    };
+    if t.at < chunk.len() {
+        return end_line(now, block, line, bytes, t.at + 1);
+    }
+    Step {
+        reading: now,
+        at: t.at,
+        told: Told::Nothing,
+    }
+}
+
+// One step, and its text behind the text that there is.
+fn say(
+    so_far: Filled,
+    block: &mut [u8],
+    line: &mut [u8],
+    bytes: &mut [u8],
+    command: &mut [u8],
+    chunk: &[u8],
+    out: &mut [u8],
+) -> Filled
+    requires fit { Fit so_far.reading (desk block.old line.old bytes.old command.old) }
+    requires so_far_bound { (so_far.reading.number < most64) × ((so_far.at ≤ length chunk.now) × (length chunk.now < most64)) }
+    requires step_room_in_bounds { (so_far.size + step_room ≤ length out.old) × (length out.old < most64) }
+    ensures { Said so_far (desk block.old line.old bytes.old command.old) chunk.now out.old result (desk block.new line.new bytes.new command.new) out.new }
+{
+    let reading = so_far.reading;
+    let s = take_step(reading, block, line, bytes, command, chunk, so_far.at);
+    let n = tell(s, command, out, so_far.size);
+    let next = s.reading;
+    Filled {
+        reading: next,
+        at: s.at,
+        size: so_far.size + n,
+        refused: is_refused(s),
+    }
+}
+
+fn is_refused(step: Step) -> bool
+    ensures { result ≡ is_refused step.told }
+{
+    let told = step.told;
+    match told {
+        Told::Nothing => false,
+        Told::Command(_) => false,
+        Told::Refused => true,
+    }
+}
+
+// Steps, one after the other, with their texts together at the front of `out`: up to a refused line, while the next text has room, and
+// while anything is left of the chunk or of its last line's writes.
+pub fn fill(
+    start: Reading,
+    block: &mut [u8],
+    line: &mut [u8],
+    bytes: &mut [u8],
+    command: &mut [u8],
+    chunk: &[u8],
+    from: usize,
+    out: &mut [u8],
+) -> Filled
+    requires fit { Fit start (desk block.old line.old bytes.old command.old) }
+    requires chunk_bound { (start.number + length chunk.now < most64 + from) × ((from ≤ length chunk.now) × (length chunk.now < most64)) }
+    requires out_len_bound { length out.old < most64 }
+    ensures { Full start (desk block.old line.old bytes.old command.old) chunk.now from out.old result (desk block.new line.new bytes.new command.new) out.new }
+{
+    let mut f = Filled {
+        reading: start,
+        at: from,
+        size: 0,
+        refused: false,
+    };
+    while goes_on(f, chunk.len(), out.len()) {
+        let g = say(f, block, line, bytes, command, chunk, out);
+        f = g;
+    }
+    f
+}
+
+// The block's first 13 bytes as `replay` ends with them, at the front of `out`. Answers the text's length.
+pub fn head_line(block: &[u8], out: &mut [u8]) -> usize
+    requires { (head_bytes ≤ length block.now) × (step_room ≤ length out.old) }
+    ensures value { (result ≡ length (head_line block.now)) × (result ≤ step_room) }
+    ensures out_after { out.new ≡ over 0 (length (head_line block.now)) (head_line block.now) out.old }
+{
+    command_line(&block[0..parts::SPARE], out, 0)
+}
+
+// A row of the picture as `plate` prints it, at the front of `out`, from the tables of the block's picture.
+pub fn row_line(
+    block: &[u8],
+    spreads: &[u32],
+    border: &[u16],
+    game: &[u16],
+    y: usize,
+    words: &mut [u16],
+    out: &mut [u8],
+)
+    requires valid { Valid block.now × (y < 224) }
+    requires tables_of { TablesOf (parts_of (load block.now)) spreads.now border.now game.now }
+    requires words_len { (length words.old ≡ 256) × (1025 ≤ length out.old) }
+    ensures words_after { words.new ≡ row_of (parts_of (load block.now)) y }
+    ensures out_after { out.new ≡ over 0 1025 (row_line (row_of (parts_of (load block.now)) y)) out.old }
+{
+    block_picture::row_from(block, spreads, border, game, y, words);
+    log_text::row_line(words, out);
+}
