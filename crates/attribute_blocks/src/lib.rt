@@ -1,5 +1,6 @@
 // ATTR_BLK: rectangles, on the map by value (the crate `attribute_map`).
 #![tactic(auto)]
+
 ghost use Rattle.std.specs.Prelude.{◌≡◌, ◌&&◌, ◌+◌, ◌*◌, ◌≤◌, length};
 ghost use Rattle.attribute_map.specs.Data.{Whole, changed};
 ghost use Rattle.attribute_blocks.specs.Blk.{strictly, within, on_line, blk_pick, blk_cell, set_at, blk_map};

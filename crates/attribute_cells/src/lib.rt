@@ -1,5 +1,6 @@
 // ATTR_CHR: cell after cell, on the map by value (the crate `attribute_map`).
 #![tactic(auto)]
+
 ghost use Rattle.std.specs.Prelude.{◌≡◌, ◌+◌, ◌-◌, ◌*◌, ◌≤◌, ◌<◌, length};
 ghost use Rattle.attribute_map.specs.Data.{Whole, steps};
 ghost use Rattle.attribute_cells.specs.Chr.{next, place_of, put_at, pair_of_data, chr_map};

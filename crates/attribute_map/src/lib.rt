@@ -2,6 +2,7 @@
 // RULES 1.3; Pan Docs, Attributes. The commands that change a map are in the crate `attributes`,
 // ATTR_BLK in `attribute_blocks` and ATTR_CHR in `attribute_cells`; what they share is here.
 #![tactic(auto)]
+
 ghost use Rattle.std.specs.Prelude.{◌≡◌, ◌+◌, ◌*◌, ◌%◌, min, length};
 ghost use Rattle.parts.specs.Parts.{map_bytes};
 ghost use Rattle.attribute_map.specs.Map.{pack, unpack};

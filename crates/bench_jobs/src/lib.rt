@@ -1,6 +1,7 @@
 // Work as the programs do it, over lent memory, exported for times (tools/bench): a screen and writes on a valid block that is not checked
 // again, and a whole log as `replay` and `plate` take it, with their text in the place of what they write. The log's last line has its LF.
 #![tactic(auto)]
+
 ghost use Rattle.std.specs.Prelude.{◌≡◌, ◌*◌, ◌≤◌, ◌<◌, length, true};
 ghost use Rattle.parts.specs.Parts.{block_bytes, capture_bytes, store_bytes};
 ghost use Rattle.layout.specs.Block.{load};

@@ -2,6 +2,7 @@ pub mod Determined
 pub mod Every
 pub mod Folds
 pub mod Masks
+pub mod Named
 pub mod Overs
 pub mod Painting
 pub mod Pairs

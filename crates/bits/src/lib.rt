@@ -1,6 +1,7 @@
 // The leaves that every other crate stands on: words, packed pairs, plane bytes, copying into a part, a test for zeros.
 // By shifts and masks (docs/DECISIONS.md, Leaves over bytes). The meaning is in specs/, the laws in proofs/.
 #![tactic(auto)]
+
 ghost use Rattle.std.specs.Prelude.{◌≡◌, ◌+◌, ◌<◌, ◌≤◌, length, replicate};
 ghost use Rattle.bits.specs.Word.{word, low_byte, high_byte};
 ghost use Rattle.bits.specs.Pair.{pair_of};

@@ -1,5 +1,6 @@
 // Eight bytes as one number, the first one lowest: half a packet of the block, and eight writes that are looked at at once.
 #![tactic(auto)]
+
 ghost use Rattle.std.specs.Prelude.{◌≡◌, ◌+◌, ◌≤◌, length};
 ghost use Rattle.bits_eight.specs.Eight.{eight_at};
 

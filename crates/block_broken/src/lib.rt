@@ -2,6 +2,7 @@
 // `block_valid`; here is a function for each that looks for its byte, but for V3's, which is the crate `block_broken_v3`.
 // The meaning is `Broken` in the crate `broken`, function by function.
 #![tactic(auto)]
+
 ghost use Rattle.std.specs.Prelude.{◌≡◌, cond, eqb, leb, length};
 ghost use Rattle.parts.specs.Parts.{block_bytes, kind_at, countdown_at};
 ghost use Rattle.layout.specs.Block.{byte};

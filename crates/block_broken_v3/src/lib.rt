@@ -1,6 +1,7 @@
 // V3 of a block that breaks it, RULES 1.15: which byte, by what the receiver is at. All of the rules together are the crate `block_broken`.
 // The meaning is `Broken` in the crate `broken`, function by function.
 #![tactic(auto)]
+
 ghost use Rattle.std.specs.Prelude.{◌≡◌, ◌+◌, ◌*◌, length, drop};
 ghost use Rattle.parts.specs.Parts.{block_bytes, store_at, store_bytes};
 ghost use Rattle.layout.specs.Valid.{Fronted};

@@ -2,6 +2,7 @@
 // RULES 4; Rust: `dispatch_command`. The rules are `Carry` of the crate `rules`; what a command does to the block is in the crates
 // `block_plain` and `block_fixed`. Every worker requires a valid block and leaves one.
 #![tactic(auto)]
+
 ghost use Rattle.std.specs.Prelude.{◌≡◌, ◌*◌, ◌≤◌, length, take};
 ghost use Rattle.attribute_map.specs.Data.{Whole};
 ghost use Rattle.commands.specs.Command.{plain, fixed, decode};

@@ -2,6 +2,7 @@
 // `fixedly` and `fixedSnes` of the crate `rules`; what each command computes is in the crates `palettes` and `commands`. The plain
 // commands are in the crate `block_plain`. Every worker of a command requires a valid block and leaves one.
 #![tactic(auto)]
+
 ghost use Rattle.std.specs.Prelude.{◌≡◌, length};
 ghost use Rattle.attribute_map.specs.Data.{Whole};
 ghost use Rattle.palettes.specs.Palettes as palette;

@@ -2,6 +2,7 @@
 // where is the crate `block_broken`; it is asked only of a block that is not valid, so that a valid one is checked as quickly as without it.
 // The meaning is `Broken` in the crate `broken`.
 #![tactic(auto)]
+
 ghost use Rattle.std.specs.Prelude.{◌≡◌, ◌+◌, ◌-◌, ◌/◌, ◌^◌, ◌<◌, ◌≤◌, leb, length};
 ghost use Rattle.parts.specs.Parts.{block_bytes, header_bytes, packet_at, packet_bytes};
 ghost use Rattle.layout.specs.Block.{byte};

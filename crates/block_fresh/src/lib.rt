@@ -1,5 +1,6 @@
 // The fresh units, `new` and `post_boot`, into a lent block. RULES 1.13. The meaning is `Fresh` in the crate `layout`.
 #![tactic(auto)]
+
 ghost use Rattle.std.specs.Prelude.{◌≡◌, [], ◌∷◌, ◌+◌, ◌≤◌, length};
 ghost use Rattle.bits.specs.Over.{over};
 ghost use Rattle.parts.specs.Parts.{block_bytes, system_bytes};

@@ -1,6 +1,7 @@
 // The packet that is coming in, as it stands in the block and as the receiver has it: sixteen bytes, the lowest first, and two words.
 // RULES 1.5. The meaning of the bytes is `value_of` and `bytes_of`.
 #![tactic(auto)]
+
 ghost use Rattle.std.specs.Prelude.{◌≡◌, ◌+◌, ◌≤◌, length};
 ghost use Rattle.bits.specs.Over.{part, over};
 ghost use Rattle.layout.specs.Block.{value_of};

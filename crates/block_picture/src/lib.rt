@@ -1,6 +1,7 @@
 // The workers: what is drawn of a valid block (RULES 6). They refuse nothing, and each hands the block's
 // parts on to the crate that has the rule.
 #![tactic(auto)]
+
 ghost use Rattle.std.specs.Prelude.{◌≡◌, ◌<◌, ◌≤◌, length};
 ghost use Rattle.border.specs.Border.{entry_at, colour_of};
 ghost use Rattle.picture.specs.Tables.{TablesOf};

@@ -2,6 +2,7 @@
 // `rules`; what each command computes is in the crates `palettes` and `commands`. The fixed commands are in the crate `block_fixed`.
 // Every worker of a command requires a valid block and leaves one.
 #![tactic(auto)]
+
 ghost use Rattle.std.specs.Prelude.{◌≡◌, ◌<◌, length};
 ghost use Rattle.attribute_map.specs.Data.{Whole};
 ghost use Rattle.commands.specs.Command.{plain, pal_pair, attr_blk, attr_lin, attr_div, attr_chr, mlt_req, mask_en};

@@ -1,6 +1,7 @@
 // The port's bytes of the block: the receiver, the two lines and the joypad index out of them and back, and a complete command from the
 // packet store into the caller's buffer. RULES 1.4, 1.5 and 3. The meaning is in specs/Bytes.
 #![tactic(auto)]
+
 ghost use Rattle.std.specs.Prelude.{◌≡◌, ◌≤◌, ◌<◌, length};
 ghost use Rattle.parts.specs.Parts.{block_bytes, store_bytes};
 ghost use Rattle.layout.specs.Block.{load, stage_of, flag};

@@ -1,6 +1,7 @@
 // V3 of a block, RULES 1.8: what the receiver's bytes may be at each of its stages. The other clauses are the crate `block_valid`, all of them together `block_broken`.
 // The meaning is `v3` in the crate `layout`; what it says of each stage is `Valid` in the crate `receiver`.
 #![tactic(auto)]
+
 ghost use Rattle.std.specs.Prelude.{◌≡◌, ◌^◌, ◌≤◌, ltb, length};
 ghost use Rattle.parts.specs.Parts.{block_bytes};
 ghost use Rattle.layout.specs.Block.{load};

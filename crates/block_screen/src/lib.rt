@@ -2,6 +2,7 @@
 // RULES 5; Rust: `update_screen`. The rules are `Screen` of the crate `rules`; the page and the landings are
 // in the crate `transfer`. Every worker requires a valid block and leaves one.
 #![tactic(auto)]
+
 ghost use Rattle.std.specs.Prelude.{◌≡◌, length};
 ghost use Rattle.layout.specs.Valid.{Valid};
 ghost use Rattle.layout.specs.Block.{load, save};

@@ -1,6 +1,7 @@
 // Writes on a valid block: many in a row up to the next command, or one alone. The receiver is held in locals, and goes back into the block
 // once, where a command is complete or the writes end. RULES 3.10. The meaning is `played` in specs/Play, and the rules of a write.
 #![tactic(auto)]
+
 ghost use Rattle.std.specs.Prelude.{◌≡◌, ◌≤◌, length};
 ghost use Rattle.parts.specs.Parts.{store_bytes};
 ghost use Rattle.layout.specs.Block.{load, save};

@@ -1,5 +1,6 @@
 // The border: a tile's part, a map entry, the colour at a pixel (RULES 6.1 to 6.3). Rust: `SgbBorder`.
 #![tactic(auto)]
+
 ghost use Rattle.std.specs.Prelude.{◌≡◌, ◌<◌, true, length};
 ghost use Rattle.parts.specs.Parts.{tiles_bytes, border_map_bytes, border_palettes_bytes};
 ghost use Rattle.bits.specs.Bit.{bit_at};

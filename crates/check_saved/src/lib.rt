@@ -1,6 +1,7 @@
 // All that the program `check` prints of a saved block on standard input: one line, `valid` or the refusal that the block calls for.
 // RULES 8.7. The verdict is that of `view::refusal`, the reading is in `file_reader`, the writing in `log_writer`.
 #![tactic(auto)]
+
 ghost use Rattle.std.specs.Prelude.{◌≡◌, ◌≤◌, length, take};
 ghost use Rattle.bits.specs.Over.{over};
 ghost use Rattle.log_writer.specs.Tally.{Sent};

@@ -1,6 +1,7 @@
 // Colour words and map words (RULES 6.8 and 6.1): both have sixteen bits, and their types keep them apart, so that no map word gets
 // painted. Carried over: `Rgb555`, `GAMMA_RAMP`, `BorderMapEntry`.
 #![tactic(auto)]
+
 ghost use Rattle.std.specs.Prelude.{◌≡◌, ◌<◌};
 ghost use Rattle.bits.specs.Word.{word};
 ghost use Rattle.colour.specs.Colour.{ramp, rgb8};

@@ -1,6 +1,7 @@
 // A completed command: which it is, and what it does to the pads and the packed attribute map.
 // RULES 4; Pan Docs, Command summary. The palette commands are in the crate `palettes`, the mask is `block_plain`'s.
 #![tactic(auto)]
+
 mod decoding;
 mod files;
 mod joypads;

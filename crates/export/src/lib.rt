@@ -2,6 +2,7 @@
 // include/sporedrift.h tells each call to its user; the numbers are those of the crate `export_answers`. A slice crosses as a pointer and a length.
 // None asks anything of its caller, and each contract is that of the call which it passes on.
 #![tactic(auto)]
+
 mod changing;
 mod exchanging;
 mod lending;

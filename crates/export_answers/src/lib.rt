@@ -1,5 +1,6 @@
 // Each enum that a public call answers, as the number that crosses (specs/Coded).
 #![tactic(auto)]
+
 ghost use Rattle.std.specs.Prelude.{◌≡◌, ◌+◌, ◌*◌, ◌<◌, ◌≤◌};
 ghost use Rattle.pulses.specs.Answer.{encoded_answer, verdict_answer};
 ghost use Rattle.log_line.specs.Calls.{line_told};

@@ -1,6 +1,7 @@
 // Standard input read into a lent buffer, up to the end of the input or of the buffer: for the programs that hold a whole file, `check` and
 // `page`. Here are the calls of `read`; the writing is in `log_writer`.
 #![tactic(auto)]
+
 ghost use Rattle.std.specs.Prelude.{◌≡◌, ◌+◌, ◌≤◌, length, take};
 ghost use Rattle.file_reader.specs.Came.{Came};
 

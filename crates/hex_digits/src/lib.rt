@@ -1,5 +1,6 @@
 // Hexadecimal text: what its digits spell, and bytes spelled out. RULES 8.2 and 8.5. The meaning is in specs/Hex.
 #![tactic(auto)]
+
 ghost use Rattle.std.specs.Prelude.{◌≡◌, true, ◌∷◌, [], ◌+◌, ◌*◌, ◌≤◌, ◌<◌, length};
 ghost use Rattle.bits.specs.Over.{over};
 ghost use Rattle.hex_digits.specs.Hex.{nibble, spells, spelled, capital, hex_text};

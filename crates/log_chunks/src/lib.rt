@@ -2,6 +2,7 @@
 // feeds chunks and writes out the text that each call gives. RULES 8. The meaning of the whole is in specs/Events
 // and specs/Texts, the steps are in specs/Steps, and that the steps tell the whole is in proofs/.
 #![tactic(auto)]
+
 ghost use Rattle.std.specs.Prelude.{◌≡◌, ◌+◌, ◌*◌, ◌≤◌, ◌<◌, ltb, length, take, []};
 ghost use Rattle.parts.specs.Parts.{capture_bytes, store_bytes};
 ghost use Rattle.layout.specs.Valid.{Valid};

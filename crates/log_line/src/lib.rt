@@ -1,6 +1,7 @@
 // One line of a log: its form, and its bytes. RULES 8.2 and 8.3. Next door: splitting an input into lines (`lines`).
 // The meaning is in specs/: `Line` what a line means, `Calls` what `parse` answers and leaves.
 #![tactic(auto)]
+
 ghost use Rattle.std.specs.Prelude.{◌≡◌};
 ghost use Rattle.log_line.specs.Line.{meaning_of};
 ghost use Rattle.log_line.specs.Calls.{line_told, line_answer, line_bytes, kind_told};

@@ -1,6 +1,7 @@
 // All that the program `plate` prints of a log: the picture at its end, or the first refused line alone.
 // The reading is in `log_reader`, the writing in `log_writer`.
 #![tactic(auto)]
+
 ghost use Rattle.std.specs.Prelude.{List, ◌≡◌, ℕ, ◌-◌, ◌≤◌, length};
 ghost use Rattle.layout.specs.Valid.{Valid};
 ghost use Rattle.layout.specs.Block.{load};

@@ -2,6 +2,7 @@
 // each fill, `plate` is quiet up to its end. What is told stands in the contracts of `log`, what is written in the lent tally of
 // `log_writer`; here are the calls of `read`.
 #![tactic(auto)]
+
 ghost use Rattle.std.specs.Prelude.{false, List, [], ◌≡◌, ℕ, ◌+◌, ◌≤◌, length, take};
 ghost use Rattle.layout.specs.Valid.{Valid};
 ghost use Rattle.log_chunks.specs.Steps.{Fit, desk};

@@ -1,6 +1,7 @@
 // Where a reading of a log stands: how it begins, whether there is more to do, and what a last line lacks. Its steps are in the crate
 // `log`.
 #![tactic(auto)]
+
 ghost use Rattle.std.specs.Prelude.{◌≡◌, ltb, length};
 ghost use Rattle.log_reading.specs.Point.{begun, left, last_lf};
 

@@ -1,6 +1,7 @@
 // All that the program `replay` prints of a log: its commands and refused lines as they are read, and at its end the block's first 13 bytes.
 // The reading is in `log_reader`, the writing in `log_writer`.
 #![tactic(auto)]
+
 ghost use Rattle.std.specs.Prelude.{List, ◌≡◌, ℕ, length};
 ghost use Rattle.layout.specs.Valid.{Valid};
 ghost use Rattle.log_chunks.specs.Steps.{desk};

@@ -1,6 +1,7 @@
 // The lines that the programs print, a command, a number, a refused line, a row of the picture; and a number in decimal. RULES 8.5 to 8.8.
 // Nothing here writes to anywhere but the lent text; the meaning is in specs/Text.
 #![tactic(auto)]
+
 ghost use Rattle.std.specs.Prelude.{◌≡◌, ◌+◌, ◌*◌, ◌≤◌, length};
 ghost use Rattle.bits.specs.Over.{over};
 ghost use Rattle.log_text.specs.Text.{hex_line, decimal_text, number_line, refusal_text, word_text, row_line};

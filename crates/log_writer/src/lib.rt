@@ -2,6 +2,7 @@
 // contract of `write` says how many bytes it took and nothing of which, so that a contract can name what was printed only by a value that
 // the code carries.
 #![tactic(auto)]
+
 ghost use Rattle.std.specs.Prelude.{◌≡◌, ◌≤◌, length, take};
 ghost use Rattle.log_writer.specs.Tally.{tallied, Sent};
 ghost use Rattle.log_writer.specs.Told.{ToldAs};

@@ -2,6 +2,7 @@
 // `screen_to_transfer_data` goes the other way.
 // The meaning is in specs/Pixels; that the page of that screen is the page, and the other way round, in proofs/Pages.
 #![tactic(auto)]
+
 ghost use Rattle.std.specs.Prelude.{◌≡◌, ◌+◌, ◌*◌, ◌/◌, ◌<◌, ◌≤◌, length};
 ghost use Rattle.parts.specs.Parts.{capture_bytes};
 ghost use Rattle.bits.specs.Paint.{Painted};

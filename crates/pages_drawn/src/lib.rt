@@ -2,6 +2,7 @@
 // `10` where the input is no page. RULES 8.8. The screen is that of `pages::page_screen`, the reading is in `file_reader`, the writing in
 // `log_writer`.
 #![tactic(auto)]
+
 ghost use Rattle.std.specs.Prelude.{◌≡◌, ◌<◌, ◌≤◌, length, take};
 ghost use Rattle.parts.specs.Parts.{capture_bytes};
 ghost use Rattle.bits.specs.Over.{over};

@@ -1,6 +1,7 @@
 // PAL01, PAL23, PAL03, PAL12 and PAL_SET on the 32 bytes of the four palettes.
 // RULES 4.3 and 4.4; Pan Docs, Palettes. A colour stays the two bytes that the game sent: nothing here looks into it.
 #![tactic(auto)]
+
 ghost use Rattle.std.specs.Prelude.{◌≡◌, ◌+◌, ◌*◌, ◌≤◌, ◌<◌, length};
 ghost use Rattle.parts.specs.Parts.{palettes_bytes, system_bytes};
 ghost use Rattle.palettes.specs.Palettes.{shared, pal_pair, system_number, pal_set};

@@ -1,6 +1,7 @@
 // The SNES picture: the backdrop, the displayed screen on it, and the border over both (RULES 6.6 and 6.7).
 // Rust: `snes_picture`. A row goes by runs of eight pixels (`picture_runs`) from tables that are made once: with a full border a sixth of the Rust's time.
 #![tactic(auto)]
+
 ghost use Rattle.std.specs.Prelude.{◌≡◌, ◌<◌, ◌≤◌, ◌+◌, ◌/◌, ◌%◌, length};
 ghost use Rattle.parts.specs.Parts.{preset_bytes, palettes_bytes, border_palettes_bytes};
 ghost use Rattle.bits.specs.Tab.{tab};

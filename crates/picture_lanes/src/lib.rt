@@ -1,6 +1,7 @@
 // The eight colour indices of a row of a border tile at once, a lane of four bits each, so that a run of eight pixels reads its map word and
 // its four plane bytes once. A table, made once a picture, has every plane byte spread over eight lanes.
 #![tactic(auto)]
+
 ghost use Rattle.std.specs.Prelude.{◌≡◌, ◌<◌, ◌≤◌, ◌+◌, length};
 ghost use Rattle.parts.specs.Parts.{tiles_bytes};
 ghost use Rattle.bits.specs.Tab.{tab};

@@ -1,6 +1,7 @@
 // A run: eight pixels of a row of the picture, those of one border cell. Colours come from tables made beforehand, in which a transparent
 // border pixel already has the backdrop, so that no branch follows the pixels.
 #![tactic(auto)]
+
 ghost use Rattle.std.specs.Prelude.{◌≡◌, ◌<◌, ◌≤◌, ◌+◌, ◌-◌, ◌*◌, ◌/◌, cond, eqb, length, get_or};
 ghost use Rattle.parts.specs.Parts.{map_bytes, capture_bytes};
 ghost use Rattle.bits.specs.Paint.{Painted};

@@ -2,6 +2,7 @@
 // RULES 7. Next door: one packet's pulses (`packet`), the rule of the verdict (`rule`). The meaning is in specs/,
 // the round trip in proofs/Returns.
 #![tactic(auto)]
+
 ghost use Rattle.std.specs.Prelude.{◌≡◌};
 ghost use Rattle.pulses.specs.Bytes.{command_packets};
 ghost use Rattle.pulses.specs.Encode.{Encodes};

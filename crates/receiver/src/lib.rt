@@ -2,6 +2,7 @@
 // RULES 3.3 to 3.8; Pan Docs, Command packet transfers. Next door: the packets that are in (`store`), the lines (`lines`).
 // The meaning is in specs/Receive; which receivers are valid, V3, in specs/Valid.
 #![tactic(auto)]
+
 ghost use Rattle.std.specs.Prelude.{◌≡◌, ◌<◌, true};
 ghost use Rattle.receiver.specs.Count.{count_of};
 ghost use Rattle.receiver.specs.Lines.{pulse_of};

@@ -1,6 +1,7 @@
 // `receiver_run::run` with the same contract, word for word, and whole words of data pulses at once; while no packet is coming in it looks for
 // the next start pulse alone. Below it are the words (`receiver_gather`) and the wait (`receiver_polling`). The figures are in docs/BENCH.md.
 #![tactic(auto)]
+
 ghost use Rattle.std.specs.Prelude.{◌≡◌, ◌<◌, ◌≤◌, length};
 ghost use Rattle.receiver.specs.Receive.{rx_of, Sound};
 ghost use Rattle.receiver.specs.declared.Stage.TheVariants.{Receiving};

@@ -1,5 +1,6 @@
 // Data pulses by the word: 64 of them, four at a time, as long as each has its release.
 #![tactic(auto)]
+
 ghost use Rattle.std.specs.Prelude.{◌≤◌, length};
 ghost use Rattle.receiver_gather.specs.Words.{Gave};
 

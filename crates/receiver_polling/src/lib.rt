@@ -1,6 +1,7 @@
 // While no packet is coming in, a start pulse alone means anything to the receiver. Up to the next one a write is its two lines, and the
 // joypad index that P15 steps: what a game's ordinary polling is.
 #![tactic(auto)]
+
 ghost use Rattle.std.specs.Prelude.{◌<◌, ◌≤◌, ◌≡◌, cond, length};
 ghost use Rattle.receiver.specs.Receive.{rx_of, Sound};
 ghost use Rattle.receiver.specs.declared.Stage.TheVariants.{Receiving};

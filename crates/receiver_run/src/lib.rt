@@ -1,6 +1,7 @@
 // A run of writes over one receiver that is held in locals, until a command completes or the writes end.
 // RULES 3. What it does to the block, and the command it completes, are the caller's: the packet store alone is lent.
 #![tactic(auto)]
+
 ghost use Rattle.std.specs.Prelude.{◌≡◌};
 ghost use Rattle.receiver_run.specs.Run.{runs, port_of, ended_of, Ready};
 

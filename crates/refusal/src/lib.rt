@@ -1,5 +1,6 @@
 // A refusal, as every call over a block tells it and as it crosses to C (RULES 2.1): one number.
 #![tactic(auto)]
+
 ghost use Rattle.std.specs.Prelude.{◌≡◌, ◌/◌, ◌%◌};
 
 // The refusal's own number is the low byte, and where it comes with an offset that stands above it. 0 where nothing is refused.

@@ -1,6 +1,7 @@
 // The screen that is shown and the colours of its pixels (RULES 5.5, 6.4 and 6.5).
 // Rust: `displayed_screen`, `render_data`, `SgbRenderData::backdrop` and `color_at`.
 #![tactic(auto)]
+
 ghost use Rattle.std.specs.Prelude.{◌≡◌, ◌<◌, ◌/◌, length};
 ghost use Rattle.parts.specs.Parts.{preset_bytes, palettes_bytes, map_bytes};
 ghost use Rattle.screen.specs.Packed.{pair_at};

@@ -2,6 +2,7 @@
 // `write_state` with `capture_memory`. Neither asks anything of its caller, and a refusal changes no lent byte. The meaning is `Coming` and
 // `Going` in the crate `state_spans`; the steps are `state_in` and `state_out`.
 #![tactic(auto)]
+
 ghost use Rattle.std.specs.Prelude.{◌≡◌, true, ◌&&◌, cond, eqb, length};
 ghost use Rattle.broken.specs.Broken.{broken, broken_number};
 ghost use Rattle.parts.specs.Parts.{block_bytes};

@@ -1,6 +1,7 @@
 // Palette numbers and shades a byte each, as a state of the emulator has them (RULES 11.2), and packed four to a byte, as the block has them.
 // The meaning is in specs/Cells. Each loop takes four of them a turn, by shifts and masks, with no branch that follows them.
 #![tactic(auto)]
+
 ghost use Rattle.std.specs.Prelude.{◌≡◌, ◌*◌, ◌≤◌, length};
 ghost use Rattle.bits.specs.Over.{over};
 ghost use Rattle.state_cells.specs.Cells.{pack_cells, unpack_cells, palette_numbers};

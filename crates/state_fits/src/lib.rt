@@ -1,6 +1,7 @@
 // How long the spans of a state of the emulator are that comes in (RULES 11.3): refusal 8. The call that refuses is the crate `state`. The meaning
 // is `Coming` in the crate `state_spans`.
 #![tactic(auto)]
+
 ghost use Rattle.std.specs.Prelude.{◌≡◌, ◌&&◌, ◌<◌};
 ghost use Rattle.bits.specs.Bit.{bit_of};
 ghost use Rattle.state_spans.specs.State.{span_if, state_lent};

@@ -2,6 +2,7 @@
 // to, and the parts of the block. How long its spans are is the crate `state_fits`, and the call that refuses `state`. The meaning is `Coming` in
 // the crate `state_spans`.
 #![tactic(auto)]
+
 ghost use Rattle.std.specs.Prelude.{◌≡◌, true, cond, [], ◌∷◌, ◌-◌, ◌*◌, ◌≤◌, length, get_or, replicate};
 ghost use Rattle.std.proofs.Math.Option.{none, some};
 ghost use Rattle.bits.specs.Over.{over};

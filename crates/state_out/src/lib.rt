@@ -1,6 +1,7 @@
 // A block that goes out as a state of the emulator, step by step (RULES 11.6): the room that is lent, and the spans group by group. The call that
 // refuses is the crate `state`. The meaning is `Going` in `state_spans`.
 #![tactic(auto)]
+
 ghost use Rattle.std.specs.Prelude.{◌≡◌, true, cond, ◌≤◌, length};
 ghost use Rattle.std.proofs.Math.Option.{some};
 ghost use Rattle.layout.specs.Block.{byte, is_set};

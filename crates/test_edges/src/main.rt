@@ -1,6 +1,7 @@
 // The worked examples of RULES 10, run on the unit by its public calls: one module a topic. What is written is compared with the file
 // `stdout`.
 #![tactic(auto)]
+
 mod blocks;
 mod carried;
 mod emulator;

@@ -2,6 +2,7 @@
 // Chance goes by one step of xorshift: the same numbers on every machine, and nothing that could overflow. tools/oracle/stored.rs
 // runs the Rust on the same, by way of the crate `test_probe`: a change here asks for a new list.
 #![tactic(auto)]
+
 ghost use Rattle.std.specs.Prelude.{◌<◌};
 
 pub mod screens;

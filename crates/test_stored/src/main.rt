@@ -2,6 +2,7 @@
 // rounds (tools/oracle/README.md says how), so the port is held to the Rust where the Rust is not at hand. A round sends, shows and
 // looks, and writes one line: its number, the first byte of its command, a digest of each kind of answer, and one of the whole block.
 #![tactic(auto)]
+
 use libc::STDOUT_FILENO;
 
 mod digest;

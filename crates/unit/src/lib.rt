@@ -2,6 +2,7 @@
 // Rust: `write_joypad`, `update_screen`, `new`, `post_boot`. None asks anything of its caller, and a refusal changes no lent byte.
 // The meaning is in specs/Calls. The workers below them (the crates `block_..`) require a valid block and leave one, so that a long run checks once.
 #![tactic(auto)]
+
 ghost use Rattle.std.specs.Prelude.{◌≡◌};
 ghost use Rattle.bits.specs.Answer.{given};
 ghost use Rattle.view.specs.Refusal.{refusal_of};

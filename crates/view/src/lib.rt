@@ -4,6 +4,7 @@
 // A refusal changes no lent byte. The meaning is in specs/Looks, with the refusals inside. Each call tests, and then asks a worker of
 // `block_picture`, which takes a valid block and refuses nothing; whoever looks at one block many times asks `refusal` once and then the workers.
 #![tactic(auto)]
+
 ghost use Rattle.std.specs.Prelude.{◌≡◌};
 ghost use Rattle.pulses.specs.Answer.{given};
 ghost use Rattle.border.specs.Border.{colour_of};

@@ -1,0 +1,12 @@
+-- The answers of the calls are the definition's parts.
+use mathlib.Core.Path.{◌∙◌}
+use borrow.Author.Rules.{rules}
+use Rattle.attribute_blocks.specs.Blk.{blk_cell}
+use Rattle.attribute_blocks.proofs.cell.Goals as goal
+
+pub returns : goal.returns
+unfolding blk_cell
+returns c =
+    let l = c in
+    c.pick.ensures
+    ∙ rw (l.both.ensures, l.before.strictly2.ensures, l.before.before.strictly.ensures, c.both-covered.ensures, c.within-2.ensures, c.within.ensures)

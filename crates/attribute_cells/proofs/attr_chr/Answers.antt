@@ -1,0 +1,12 @@
+-- The bytes read are the definition's, and a pair that is announced and held is within the data.
+use mathlib.Core.Path.{◌∙◌}
+use borrow.Author.Rules.{rules}
+use Rattle.bits.specs.Word.{word, word_at}
+use Rattle.attribute_cells.specs.Chr.{chr_map}
+use Rattle.attribute_cells.proofs.attr_chr.Goals as goal
+
+pub returns : goal.returns
+unfolding chr_map word_at
+returns c =
+    c.run.ensures
+    ∙ rw (c.wide-2.ensures.0, c.wide.ensures.0, c.lesser-total.ensures, c.word-count.ensures)

@@ -1,0 +1,15 @@
+use mathlib.Core.Path.{ap, ◌∙◌}
+use Prim.Native.Nat.{◌≤◌, ◌+◌, ◌-◌}
+use native.Mathlib.Omega.{arith}
+use borrow.Author.Rules.{rules}
+use lib.ListN.{length, get_or}
+use Rattle.attribute_map.specs.Data.{changed, steps}
+use Rattle.attributes.specs.Lin.{lin_cell, lin_map}
+use Rattle.attribute_map.proofs.Steps.{After, after_none, after_more}
+use Rattle.attributes.proofs.lin.attr_lin.Given as goal
+
+abbrev pub invariant-loop-i : goal.invariant-loop-i
+invariant-loop-i l = (l.i ≤ l.total) × (2 + l.total ≤ length l.d) × After (λ l.i. changed (lin_cell (get_or l.d (2 + l.i) 0))) l.initial.m l.m l.i
+
+abbrev pub decreases-loop-i : goal.decreases-loop-i
+decreases-loop-i l = l.total - l.i

@@ -1,0 +1,29 @@
+-- The stage's number picks what is asked; a lent block is bytes.
+use borrow.Author.Rules.{rules}
+use borrow.Author.Tests.{lt-leb}
+use native.Mathlib.Omega.{arith}
+use mathlib.Core.Path.{ap₂, sym, ◌∙◌}
+use lib.ListN.{get_or}
+use Rattle.parts.specs.Parts.{stage_at}
+use Rattle.layout.specs.Block.{stage_of}
+use Rattle.block_receiver.proofs.Bytes.{part_bytes}
+use Rattle.broken.specs.Broken.{between, later, asks3, asks_of, byte_of, lower, lowest}
+use Rattle.broken.proofs.Lowest.{lowest-append}
+use Rattle.block_found.specs.Found.{found_told}
+use Rattle.block_broken_v3.proofs.at_v3.Goals as goal
+
+pub returns-then-stage-eq0 : goal.returns-then-stage-eq0
+unfolding asks3 asks_of lowest lower byte_of stage_of
+returns-then-stage-eq0 c = rw (c.if-stage-eq0.true, part_bytes c.args.block.now 16 16 (λ i. omega (arith, c.shared_slice_known-1.given i)) (omega arith)) c.resting.ensures
+
+pub returns-then-stage-eq1 : goal.returns-then-stage-eq1
+unfolding asks3 asks_of lowest lower byte_of stage_of
+returns-then-stage-eq1 c = rw (c.if-stage-eq1.true, part_bytes c.args.block.now 16 16 (λ i. omega (arith, c.shared_slice_known-1.given i)) (omega arith)) c.receiving.ensures
+
+pub returns-then-stage-eq2 : goal.returns-then-stage-eq2
+unfolding asks3 asks_of lowest lower byte_of stage_of
+returns-then-stage-eq2 c = rw (c.if-stage-eq2.true, part_bytes c.args.block.now 16 16 (λ i. omega (arith, c.shared_slice_known-1.given i)) (omega arith)) (c.lower.ensures ∙ ap₂ lower c.between.ensures c.later.ensures ∙ sym (lowest-append (between c.args.block.now) (later c.args.block.now)))
+
+pub returns : goal.returns
+unfolding asks3 lowest lower byte_of found_told
+returns c = rw (lt-leb (get_or c.args.block.now stage_at 0) 2 (omega arith))

@@ -1,0 +1,9 @@
+-- What is asked, one after the other.
+use borrow.Author.Rules.{rules}
+use mathlib.Core.Path.{ap₂, ◌∙◌}
+use Rattle.broken.specs.Broken.{between, lower, lowest}
+use Rattle.block_broken_v3.proofs.between.Goals as goal
+
+pub returns : goal.returns
+unfolding between lowest
+returns c = c.lower.ensures ∙ ap₂ lower c.zero_at.ensures c.set_in.ensures

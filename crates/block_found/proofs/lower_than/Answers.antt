@@ -1,0 +1,20 @@
+-- The lower of two bytes, or the one that there is.
+use borrow.Author.Rules.{rules}
+use native.Mathlib.Omega.{arith}
+use mathlib.Core.Path.{ap}
+use mathlib.Core.Option.{some}
+use Rattle.broken.specs.Broken.{lower}
+use Rattle.block_found.specs.Found.{found_told}
+use Rattle.block_found.proofs.lower_than.Goals as goal
+
+pub returns-in-Nothing : goal.returns-in-Nothing
+unfolding found_told lower
+returns-in-Nothing c = rw c.enum_told-1.given.1
+
+pub returns-then-i-j : goal.returns-then-i-j
+unfolding found_told lower
+returns-then-i-j c = rw c.b-1.given.1 (ap some (omega arith))
+
+pub returns-else-i-j : goal.returns-else-i-j
+unfolding found_told lower
+returns-else-i-j c = rw c.b-1.given.1 (ap some (omega arith))

@@ -1,0 +1,18 @@
+use borrow.Author.Rules.{rules}
+use mathlib.Core.List.{List, [], ◌∷◌, ◌++◌, append-nil}
+use mathlib.Core.Path.{◌≡◌, ◌∙◌, ap, refl, sym}
+use Prim.Native.Nat.{ℕ, ◌≤◌, ◌-◌, ◌*◌}
+use native.Mathlib.Omega.{arith}
+use lib.ListN.{drop_of_length-le, length, drop}
+use Rattle.parts.specs.Parts.{system_bytes}
+use Rattle.bits.proofs.Overs.{length_over}
+use Rattle.bits.specs.Over.{over}
+use Rattle.layout.specs.Fresh.{times, word_bytes}
+use Rattle.block_fresh.proofs.Made.{fill_none, fill_turn}
+use Rattle.block_fresh.proofs.fill_system.Given as goal
+
+abbrev pub invariant-loop-i : goal.invariant-loop-i
+invariant-loop-i l = (l.i ≤ 512) × ((length l.system ≡ system_bytes) × (l.system ≡ times l.i palette ++ drop (8 * l.i) l.initial.system))
+
+abbrev pub decreases-loop-i : goal.decreases-loop-i
+decreases-loop-i l = 512 - l.i

@@ -1,0 +1,12 @@
+-- It is byte 9 of the block, and a unit whose preset is there has 1 in it.
+use borrow.Author.Rules.{rules}
+use mathlib.Core.Path.{ap}
+use lib.Dec.{lit<}
+use Rattle.layout.specs.Block.{is_set}
+use Rattle.block_picture.specs.Drawn.{parts_of}
+use Rattle.block_picture.proofs.Lent.{header-lent}
+use Rattle.block_picture.proofs.of_block.in_force.Goals as goal
+
+pub returns : goal.returns
+unfolding parts_of
+returns c = ap is_set (header-lent c.args.block.now c.requires 9 (lit< tt))

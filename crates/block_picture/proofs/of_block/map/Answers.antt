@@ -1,0 +1,10 @@
+-- It is part 11 of the block.
+use borrow.Author.Rules.{rules}
+use lib.Dec.{lit<, lit≤}
+use Rattle.block_picture.specs.Drawn.{parts_of}
+use Rattle.block_picture.proofs.Lent.{lent}
+use Rattle.block_picture.proofs.of_block.map.Goals as goal
+
+pub returns : goal.returns
+unfolding parts_of
+returns c = lent c.args.block.now c.requires 11 (lit< tt) (lit≤ tt)

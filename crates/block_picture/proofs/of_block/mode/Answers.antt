@@ -1,0 +1,10 @@
+-- It is byte 0 of the block.
+use borrow.Author.Rules.{rules}
+use lib.Dec.{lit<}
+use Rattle.block_picture.specs.Drawn.{parts_of}
+use Rattle.block_picture.proofs.Lent.{header-lent}
+use Rattle.block_picture.proofs.of_block.mode.Goals as goal
+
+pub returns : goal.returns
+unfolding parts_of
+returns c = header-lent c.args.block.now c.requires 0 (lit< tt)

@@ -1,0 +1,14 @@
+-- The parts lent are the unit's, and the shade is the byte.
+use borrow.Author.Rules.{rules}
+use mathlib.Core.Path.{◌∙◌}
+use Rattle.screen.specs.Colours.{colour_at}
+use Rattle.block_picture.specs.Drawn.{shade_in}
+use Rattle.block_picture.proofs.shade.Goals as goal
+
+pub returns : goal.returns
+unfolding shade_in
+returns c =
+    c.color_at.ensures
+    ∙ (λ t.
+    colour_at (c.palettes.ensures.0 t) (c.preset.ensures.0 t) (c.in_force.ensures t) (c.attributes.ensures.0 t)
+    c.args.x c.args.y (c.wide.ensures.0 t))

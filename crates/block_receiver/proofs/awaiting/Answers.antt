@@ -1,0 +1,20 @@
+-- Each test of that row of V3 (RULES 1.8) in turn; the packet's number is 0 if its bytes are.
+use borrow.Author.Rules.{rules}
+use borrow.Author.Tests.{eq-eqb, ne_eqb, not-true, not-false}
+use mathlib.Core.Path.{sym, ◌∙◌}
+use Rattle.layout.specs.Block.{load}
+use Rattle.receiver.specs.Valid.{v3_at}
+use Rattle.block_receiver.proofs.Bytes.{zero-value}
+use Rattle.block_receiver.proofs.awaiting.Goals as goal
+
+pub returns-then-block-ne0 : goal.returns-then-block-ne0
+unfolding v3_at load
+returns-then-block-ne0 c = rw (ne_eqb _ _ c.if-block-ne0.true)
+
+pub returns-then-not-all_zero : goal.returns-then-not-all_zero
+unfolding v3_at load
+returns-then-not-all_zero c = rw (eq-eqb _ _ c.if-block-ne0.false, sym (zero-value _) ∙ sym c.all_zero.ensures ∙ not-true _ c.if-not-all_zero.true)
+
+pub returns : goal.returns
+unfolding v3_at load
+returns c = rw (eq-eqb _ _ c.if-block-ne0.false, sym (zero-value _) ∙ sym c.all_zero.ensures ∙ not-false _ c.if-not-all_zero.false) c.some_in.ensures

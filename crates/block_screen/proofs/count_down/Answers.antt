@@ -1,0 +1,17 @@
+-- Each call says what it reads from or writes to the two bytes.
+use mathlib.Core.Path.{ap, ◌∙◌}
+use Rattle.transfer.specs.Pending as pending
+use Rattle.layout.specs.Block.{load}
+use Rattle.rules.specs.Screen.{landing}
+use Rattle.block_screen.proofs.Landings.{counted-down}
+use borrow.Author.Rules.{rules}
+use Rattle.block_screen.proofs.count_down.Goals as goal
+
+pub returns : goal.returns
+unfolding load landing
+returns c =
+    let store = c in
+    let fall = store.before.before in
+    let load = fall.before in
+    let start = load.before.before.before.before in
+    (c.lands.ensures ∙ ap pending.lands load.load.ensures, counted-down start.args.block.now _ _ _ load.load.ensures fall.fall.ensures store.store-pending.ensures)

@@ -1,0 +1,19 @@
+-- The line at the front of the output goes out.
+use borrow.Author.Rules.{rules}
+use Prim.Native.Nat.{ℕ}
+use mathlib.Core.List.{List}
+use mathlib.Core.Path.{sym, ap, ◌∙◌, subst}
+use Rattle.bits.specs.Over.{over}
+use Rattle.log_text.proofs.Printed.{text-lent}
+use Rattle.log_writer.specs.Tally.{Sent}
+use Rattle.check_saved.specs.Verdict.{verdict_line, check_text}
+use Rattle.check_saved.proofs.verdict.Goals as goal
+
+pub returns : goal.returns
+unfolding check_text
+returns c =
+    let args = c.args in
+    let h = c.verdict_line-n.ensures in
+    let text = verdict_line c.refusal.result.0 in
+    let lent = text-lent text args.out.now _ c.verdict_line-n.result (sym h.0) (h.1.1 ∙ ap (λ (m : ℕ). over 0 m text args.out.now) (sym h.0)) in
+    subst (λ (l : List ℕ). Sent c.write_out.result args.tally.now l c.write_out.new.tally) (lent ∙ ap verdict_line c.refusal.ensures) c.write_out.ensures

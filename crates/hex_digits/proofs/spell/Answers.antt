@@ -1,0 +1,32 @@
+-- `hex::spell` meets its contract: after i turns the first i bytes are spelled out.
+use Prim.Native.Nat.{◌-◌, ◌*◌, ◌≤◌}
+use mathlib.Core.Path.{◌≡◌, sym, ◌∙◌}
+use native.Mathlib.Omega.{arith}
+use lib.ListN.{length, take, take-append-drop}
+use lib.Seq.{take-length}
+use Rattle.bits.specs.Over.{over}
+use Rattle.hex_digits.specs.Hex.{hex_text}
+use Rattle.hex_digits.proofs.Writing.{spell_turn}
+use Rattle.hex_digits.proofs.spell.Goals as goal
+
+pub loop-i-init : goal.loop-i-init
+unfolding hex_text
+loop-i-init c = let start = c.args in (omega arith, (omega arith, sym (take-append-drop start.at start.out.now)))
+
+pub loop-i-preserved : goal.loop-i-preserved
+loop-i-preserved c =
+    let start = c.args in
+    let l = c.loop-i in (
+      omega arith,
+      (
+        omega arith,
+        spell_turn start.src.now start.out.now l.out _ start.at l.i (omega arith) (omega arith) l.invariant.1.1
+            c.spell_byte.ensures,
+      ),
+    )
+
+pub returns : goal.returns
+returns c =
+    let s = c.args.src.now in
+    let e : c.loop-i.i ≡ length s = omega arith in
+    c.loop-i.invariant.1.1 ∙ rw (e, take-length s)

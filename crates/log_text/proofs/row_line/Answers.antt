@@ -1,0 +1,26 @@
+-- `log_text::row_line` meets its contract: after i turns the first i words are spelled out, and LF is put behind the last.
+use Prim.Native.Nat.{◌-◌, ◌*◌, ◌≤◌}
+use mathlib.Core.Path.{◌≡◌, refl}
+use native.Mathlib.Omega.{arith}
+use lib.ListN.{length, take}
+use Rattle.bits.specs.Over.{over}
+use Rattle.log_text.specs.Text.{words_text}
+use Rattle.log_text.proofs.Printed.{row_turn, row_end}
+use borrow.Author.Rules.{rules}
+use Rattle.log_text.proofs.row_line.Goals as goal
+
+pub loop-i-init : goal.loop-i-init
+unfolding words_text
+loop-i-init c = (omega arith, (omega arith, refl))
+
+pub loop-i-preserved : goal.loop-i-preserved
+loop-i-preserved c =
+    let start = c.args in
+    let l = c.loop-i in
+    (omega arith, (omega arith, row_turn start.words.now start.out.now l.out _ l.i (omega arith) l.invariant.1.1 c.spell_word.ensures))
+
+pub returns : goal.returns
+returns c =
+    let start = c.args in
+    let l = c.loop-i in
+    row_end start.words.now start.out.now l.out l.i (omega arith) (omega arith) (omega arith) l.invariant.1.1

@@ -1,0 +1,8 @@
+-- Both passes give the screen (`screen-is`).
+use native.Mathlib.Omega.{arith}
+use borrow.Author.Rules.{rules}
+use Rattle.pages.proofs.Passes.{screen_is}
+use Rattle.pages.proofs.draw.Goals as goal
+
+pub returns : goal.returns
+returns c = screen_is _ _ _ (omega arith) c.lay.ensures c.pack.ensures

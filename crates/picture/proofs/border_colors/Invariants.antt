@@ -1,0 +1,14 @@
+use Prim.Native.Nat.{◌-◌, ◌≤◌}
+use mathlib.Core.Path.{◌≡◌, refl}
+use native.Mathlib.Omega.{arith}
+use lib.ListN.{length, length-set}
+use Rattle.bits.specs.Paint.{Painted}
+use Rattle.bits.proofs.Painting.{painted_none, painted_turn, painted-count, painted_all}
+use Rattle.picture.specs.Tables.{border_color}
+use Rattle.picture.proofs.border_colors.Given as goal
+
+abbrev pub invariant-loop-n : goal.invariant-loop-n
+invariant-loop-n l = (l.n ≤ 48) × (length l.out ≡ length l.initial.out) × Painted l.out l.initial.out 0 l.n (border_color l.borders l.back.0)
+
+abbrev pub decreases-loop-n : goal.decreases-loop-n
+decreases-loop-n l = 48 - l.n

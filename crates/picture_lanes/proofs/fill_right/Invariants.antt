@@ -1,0 +1,14 @@
+use Prim.Native.Nat.{◌+◌, ◌-◌, ◌≤◌}
+use mathlib.Core.Path.{◌≡◌, refl}
+use native.Mathlib.Omega.{arith}
+use lib.ListN.{length, length-set}
+use Rattle.bits.specs.Paint.{Painted}
+use Rattle.bits.proofs.Painting.{painted_none, painted_turn, painted-count}
+use Rattle.picture_lanes.specs.Lanes.{spread_of}
+use Rattle.picture_lanes.proofs.fill_right.Given as goal
+
+abbrev pub invariant-loop-k : goal.invariant-loop-k
+invariant-loop-k l = (l.k ≤ 256) × (length l.out ≡ length l.initial.out) × Painted l.out l.initial.out 256 l.k (λ i. spread_of (256 + i))
+
+abbrev pub decreases-loop-k : goal.decreases-loop-k
+decreases-loop-k l = 256 - l.k

@@ -1,0 +1,14 @@
+use Prim.Native.Nat.{ℕ, ◌+◌, ◌-◌, ◌≤◌}
+use mathlib.Core.Path.{◌≡◌, refl, ap, ◌∙◌}
+use native.Mathlib.Omega.{arith}
+use lib.ListN.{length, length-set, get_or}
+use Rattle.bits.specs.Paint.{Painted}
+use Rattle.bits.proofs.Painting.{painted_none, painted_turn, painted-count}
+use Rattle.picture_runs.specs.Runs.{lane_shade}
+use Rattle.picture_runs.proofs.run_game.Given as goal
+
+abbrev pub invariant-loop-j : goal.invariant-loop-j
+invariant-loop-j l = (l.j ≤ 8) × (length l.out ≡ length l.initial.out) × Painted l.out l.initial.out l.at l.j (λ i. get_or l.game (l.n + lane_shade l.s i) 0)
+
+abbrev pub decreases-loop-j : goal.decreases-loop-j
+decreases-loop-j l = 8 - l.j

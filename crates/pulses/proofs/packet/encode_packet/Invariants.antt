@@ -1,0 +1,17 @@
+use mathlib.Core.Path.{◌≡◌, ◌∙◌}
+use Prim.Native.Nat.{◌+◌, ◌-◌, ◌*◌, ◌≤◌, ◌<◌}
+use native.Mathlib.Omega.{arith}
+use lib.Bits.{mask_lt, and_mask}
+use lib.ListN.{length, set, length-set}
+use Rattle.pulses.specs.Encode.{packet_pulses}
+use Rattle.pulses.proofs.Front.{front, starts, turns, stops}
+use Rattle.pulses.proofs.packet.encode_packet.Given as goal
+
+abbrev pub invariant-loop-k : goal.invariant-loop-k
+invariant-loop-k l =
+    (l.k ≤ 128)
+    × ((length l.out ≡ 260)
+    × ((length l.packet ≡ 16) × ((length l.initial.out ≡ 260) × (l.out ≡ front (packet_pulses l.packet) l.initial.out (2 + 2 * l.k)))))
+
+abbrev pub decreases-loop-k : goal.decreases-loop-k
+decreases-loop-k l = 128 - l.k

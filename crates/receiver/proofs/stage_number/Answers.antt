@@ -1,0 +1,16 @@
+-- Each arm knows its stage, and the definition computes there.
+use borrow.Author.Rules.{rules}
+use Rattle.receiver.specs.Receive.{stage_number}
+use Rattle.receiver.proofs.stage_number.Goals as goal
+
+pub returns-in-Idle : goal.returns-in-Idle
+unfolding stage_number
+returns-in-Idle c = rw c.enum_told-1.given.1
+
+pub returns-in-Receiving : goal.returns-in-Receiving
+unfolding stage_number
+returns-in-Receiving c = rw c.enum_told-in-Receiving-1.given.1
+
+pub returns-in-Awaiting : goal.returns-in-Awaiting
+unfolding stage_number
+returns-in-Awaiting c = rw c.enum_told-in-Awaiting-1.given.1

@@ -1,0 +1,18 @@
+use borrow.Author.Rules.{rules}
+use mathlib.Core.Path.{◌≡◌, ap, ◌∙◌}
+use Prim.Native.Nat.{◌*◌, ◌≤◌, ◌-◌}
+use native.Mathlib.Numerals.{add-one}
+use native.Mathlib.Omega.{arith}
+use lib.ListN.{length}
+use lib.Seq.{paste, paste-zero, paste-suc, length-paste}
+use Rattle.bits.proofs.Overs.{paste-over}
+use Rattle.receiver.specs.Receive.{words}
+use Rattle.receiver.specs.Store.{bytes_of, appended}
+use Rattle.receiver.proofs.Words.{length-bytes}
+use Rattle.receiver.proofs.store.append.Given as goal
+
+abbrev pub invariant-loop-i : goal.invariant-loop-i
+invariant-loop-i l = (l.i ≤ 16) × (l.store ≡ paste l.initial.store l.at (bytes_of 16 (words l.lo l.hi)) l.i)
+
+abbrev pub decreases-loop-i : goal.decreases-loop-i
+decreases-loop-i l = 16 - l.i

@@ -1,0 +1,99 @@
+-- Each turn passes eight writes more by, and counts the rises of P15 among them.
+use borrow.Author.Rules.{rules}
+use mathlib.Core.Path.{sym}
+use Prim.Native.Nat.{ℕ, ◌+◌, ◌-◌, ◌≤◌, ◌<◌}
+use native.Mathlib.Omega.{arith}
+use lib.Bits.{and_le_r}
+use lib.ListN.{length, get_or}
+use Rattle.receiver.specs.Rises.{rises}
+use Rattle.receiver_polling.specs.Passing.{Passed}
+use Rattle.receiver.proofs.Rises.{rises-add}
+use Rattle.receiver_polling.proofs.Strides.{stay, then}
+use Rattle.receiver_polling.proofs.Bytes.{rose}
+use Rattle.receiver_polling.proofs.Polls.{slots, enough-high, high-count, rises-in, calm-eight, passed-eight}
+use Rattle.receiver_polling.proofs.by_eight.Goals as goal
+
+pub loop-i-init : goal.loop-i-init
+unfolding rises
+loop-i-init c =
+    let a = c.args in
+    let p = c.requires in
+    ((omega arith, omega arith), stay a.mask a.from a.rx a.lines a.writes.now p.1.1 p.0.1 p.1.0.0)
+
+pub overflow_sub-writes : goal.overflow_sub-writes
+overflow_sub-writes c = c.loop-i.invariant.1.within
+
+pub eight-x-requires : goal.eight-x-requires
+eight-x-requires c = omega (arith, c.loop-i-test.true)
+
+pub overflow_add-x : goal.overflow_add-x
+overflow_add-x c = omega (arith, and_le_r c.eight-x.result 0x3030303030303030)
+
+pub overflow_sub-n : goal.overflow_sub-n
+overflow_sub-n c =
+    let ws = c.args.writes.now in
+    let i = c.loop-i.i in
+    let bytes : (j : ℕ) → get_or ws j 0 < 256 = λ (j : ℕ). (c.shared_slice_known-1.given j).fits in
+    let x = c.eight-x in
+    let e = enough-high i x.result ws bytes x.ensures c.loop-i.p15 in
+    omega arith
+
+pub overflow_sub-n-in-loop-i : goal.overflow_sub-n-in-loop-i
+overflow_sub-n-in-loop-i c =
+    let ws = c.args.writes.now in
+    let i = c.loop-i.i in
+    let bytes : (j : ℕ) → get_or ws j 0 < 256 = λ (j : ℕ). (c.shared_slice_known-1.given j).fits in
+    let x = c.eight-x in
+    let e = enough-high i x.result ws bytes x.ensures c.loop-i.p15 in
+    rw c.one.ensures (omega arith)
+
+pub overflow_add-n : goal.overflow_add-n
+overflow_add-n c =
+    let ws = c.args.writes.now in
+    let i = c.loop-i.i in
+    let bytes : (j : ℕ) → get_or ws j 0 < 256 = λ (j : ℕ). (c.shared_slice_known-1.given j).fits in
+    let x = c.eight-x in
+    let at = c.loop-i in
+    let e = high-count i x.result ws bytes x.ensures at.p15 in
+    let few = rises-in i x.result ws bytes x.ensures at.p15 in
+    rw (c.one.ensures, e) (omega (arith, at.invariant.0.0, at.invariant.0.1, c.loop-i-test.true))
+
+pub overflow_add-last : goal.overflow_add-last
+overflow_add-last c = omega (arith, c.loop-i-test.true, c.loop-i.invariant.0.1)
+
+pub bounds-writes-i : goal.bounds-writes-i
+bounds-writes-i c = omega (arith, c.loop-i-test.true)
+
+pub overflow_add-i : goal.overflow_add-i
+overflow_add-i c = omega (arith, c.loop-i-test.true, c.loop-i.invariant.0.1)
+
+pub loop-i-smaller : goal.loop-i-smaller
+loop-i-smaller c = omega (arith, c.loop-i-test.true)
+
+pub loop-i-preserved : goal.loop-i-preserved
+loop-i-preserved c =
+    let ws = c.args.writes.now in
+    let i = c.loop-i.i in
+    let bytes : (j : ℕ) → get_or ws j 0 < 256 = λ (j : ℕ). (c.shared_slice_known-1.given j).fits in
+    let x = c.eight-x in
+    let a = c.args in
+    let p = c.requires in
+    let at = c.loop-i in
+    let t = c.loop-i-test.true in
+    let n = high-count i x.result ws bytes x.ensures at.p15 in
+    let few = rises-in i x.result ws bytes x.ensures at.p15 in
+    let r : ℕ = rose at.p15 (slots 8 0 i ws) in
+    let g = calm-eight i x.result ws bytes x.ensures c.if-x.false in
+    let on = passed-eight a.mask i a.rx (record { p15 = at.p15; both = at.both; index = rises at.n a.lines.index a.mask }) ws
+    (omega (arith, t)) p.0.1 at.invariant.1.few p.1.0.1 p.0.0 g in
+    let e = rises-add r at.n a.lines.index a.mask in
+    rw (c.one.ensures, n) (
+      (omega (arith, at.invariant.0.0), at.invariant.0.1),
+      then a.mask a.from a.rx a.lines ws _ _ at.invariant.1 (rw (c.p15_high-p15.ensures, c.both_high-both.ensures, sym e) on),
+    )
+
+pub index_rises-requires : goal.index_rises-requires
+index_rises-requires c = c.requires.1.0
+
+pub returns : goal.returns
+returns c = rw c.index_rises.ensures c.loop-i.invariant.1

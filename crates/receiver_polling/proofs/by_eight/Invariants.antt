@@ -1,0 +1,22 @@
+use borrow.Author.Rules.{rules}
+use mathlib.Core.Path.{sym}
+use Prim.Native.Nat.{ℕ, ◌+◌, ◌-◌, ◌≤◌, ◌<◌}
+use native.Mathlib.Omega.{arith}
+use lib.Bits.{and_le_r}
+use lib.ListN.{length, get_or}
+use Rattle.receiver.specs.Rises.{rises}
+use Rattle.receiver_polling.specs.Passing.{Passed}
+use Rattle.receiver.proofs.Rises.{rises-add}
+use Rattle.receiver_polling.proofs.Strides.{stay, then}
+use Rattle.receiver_polling.proofs.Bytes.{rose}
+use Rattle.receiver_polling.proofs.Polls.{slots, enough-high, high-count, rises-in, calm-eight, passed-eight}
+use Rattle.receiver_polling.proofs.by_eight.Given as goal
+
+abbrev pub invariant-loop-i : goal.invariant-loop-i
+invariant-loop-i l =
+    ((l.from + l.n ≤ l.i) × (length l.writes < 18446744073709551616))
+    × Passed l.mask l.from l.rx l.lines l.writes
+    (record { l.rx = l.rx; l.lines = record { l.p15 = l.p15; l.both = l.both; index = rises l.n l.lines.index l.mask }; at = l.i })
+
+abbrev pub decreases-loop-i : goal.decreases-loop-i
+decreases-loop-i l = length l.writes - l.i

@@ -1,0 +1,20 @@
+use mathlib.Core.Path.{◌≡◌, ap, ◌∙◌}
+use mathlib.Core.List.{List}
+use Prim.Native.Nat.{ℕ, ◌+◌, ◌-◌, ◌*◌, ◌/◌, ◌%◌, ◌≤◌}
+use native.Mathlib.Nat.{add-zero}
+use native.Mathlib.Omega.{arith}
+use lib.ListN.{length, get_or, length-set}
+use Rattle.bits.proofs.Painting.{painted-count, painted_none, painted_turn, painted-tab, painted-length}
+use Rattle.bits.specs.Paint.{Painted}
+use Rattle.bits.specs.Pair.{pair_of}
+use Rattle.state_cells.specs.Cells.{unpack_cells}
+use Rattle.state_cells.proofs.Celling.{pair-at}
+use borrow.Author.Rules.{rules}
+use Rattle.state_cells.proofs.unpack_cells.Given as goal
+
+abbrev pub invariant-loop-i : goal.invariant-loop-i
+invariant-loop-i l =
+    (l.i ≤ length l.packed) × (length l.cells ≡ length l.initial.cells) × Painted l.cells l.initial.cells 0 (4 * l.i) (pair_in l.packed)
+
+abbrev pub decreases-loop-i : goal.decreases-loop-i
+decreases-loop-i l = length l.packed - l.i

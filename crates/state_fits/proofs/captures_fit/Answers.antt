@@ -1,0 +1,14 @@
+-- One after the other.
+use borrow.Author.Tests.{not-true, not-false}
+use mathlib.Core.Path.{sym, ◌∙◌}
+use Rattle.state_spans.specs.Coming.{captures_fit}
+use borrow.Author.Rules.{rules}
+use Rattle.state_fits.proofs.captures_fit.Goals as goal
+
+pub returns-then-not-has : goal.returns-then-not-has
+unfolding captures_fit
+returns-then-not-has c = let e = sym c.has.ensures ∙ not-true _ c.if-not-has.true in rw e
+
+pub returns : goal.returns
+unfolding captures_fit
+returns c = let e = sym c.has.ensures ∙ not-false _ c.if-not-has.false in rw e c.may_have.ensures

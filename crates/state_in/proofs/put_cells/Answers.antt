@@ -1,0 +1,15 @@
+-- The part is as long as it is said to be.
+use mathlib.Core.List.{List}
+use mathlib.Core.Path.{ap, ◌∙◌}
+use Prim.Native.Nat.{ℕ, ◌-◌}
+use native.Mathlib.Omega.{arith}
+use Rattle.bits.specs.Over.{over}
+use Rattle.bits.proofs.Overs.{length_part}
+use Rattle.state_cells.specs.Cells.{pack_cells}
+use borrow.Author.Rules.{rules}
+use Rattle.state_in.proofs.put_cells.Goals as goal
+
+pub returns : goal.returns
+returns c = let a = c.args in
+    let n = a.to - a.from in
+    ap (λ (l : List ℕ). over a.from n l a.block.now) (c.pack_cells.ensures ∙ ap (λ (k : ℕ). pack_cells k a.cells.now) (length_part a.from n a.block.now (omega arith)))

@@ -1,0 +1,18 @@
+-- One after the other, each as long as its part.
+use mathlib.Core.Path.{ap, ◌∙◌}
+use Prim.Native.Nat.{ℕ}
+use Rattle.bits.specs.Over.{over}
+use Rattle.parts.specs.Parts.{palettes_at, map_at, map_bytes, system_at, files_at, files_bytes}
+use Rattle.state_cells.specs.Cells.{pack_cells}
+use borrow.Author.Rules.{rules}
+use Rattle.state_in.proofs.put_tables.Goals as goal
+
+pub returns : goal.returns
+returns c = let a = c.args in
+    let p = c.requires in
+    let b0 = a.block.now in
+    let first = c.put.ensures ∙ ap (λ (n : ℕ). over 0 n a.front.now b0) p.1.0 in
+    let second = c.put-2.ensures ∙ (λ t. over palettes_at (p.1.1.0 t) a.palettes.now (first t)) in
+    let third = c.put_cells.ensures ∙ ap (over map_at map_bytes (pack_cells map_bytes a.attribute-map.now)) second in
+    let fourth = c.put-3.ensures ∙ (λ t. over system_at (p.1.1.1.1.0 t) a.system-palettes.now (third t)) in
+    c.put_cells-2.ensures ∙ ap (over files_at files_bytes (pack_cells files_bytes a.attribute-files.now)) fourth

@@ -1,0 +1,16 @@
+-- The tests are the definition's.
+use borrow.Author.Tests.{eq-eqb, ne_eqb}
+use Rattle.layout.specs.Block.{stage_of}
+use Rattle.test_probe.proofs.packets.stage_of.Goals as goal
+
+pub returns-then-number-eq0 : goal.returns-then-number-eq0
+unfolding stage_of
+returns-then-number-eq0 c = rw (eq-eqb _ _ c.if-number-eq0.true)
+
+pub returns-then-number-eq1 : goal.returns-then-number-eq1
+unfolding stage_of
+returns-then-number-eq1 c = rw (ne_eqb _ _ c.if-number-eq0.false, eq-eqb _ _ c.if-number-eq1.true)
+
+pub returns-else-number-eq1 : goal.returns-else-number-eq1
+unfolding stage_of
+returns-else-number-eq1 c = rw (ne_eqb _ _ c.if-number-eq0.false, ne_eqb _ _ c.if-number-eq1.false)

@@ -1,0 +1,16 @@
+use Prim.Native.Nat.{◌≤◌, ◌-◌, ◌*◌}
+use mathlib.Core.Path.{◌≡◌, refl}
+use native.Mathlib.Omega.{arith}
+use lib.ListN.{length}
+use Rattle.bits.specs.Paint.{Painted}
+use Rattle.bits.proofs.Painting.{painted_none, painted-length, painted-count}
+use Rattle.transfer.specs.Page.{page_bytes}
+use Rattle.transfer.specs.Passes.{tiles_byte}
+use Rattle.transfer.proofs.Pages.{tiles_turn}
+use Rattle.transfer.proofs.page.tiles.Given as goal
+
+abbrev pub invariant-loop-t : goal.invariant-loop-t
+invariant-loop-t l = (l.t ≤ 256) × (length l.out ≡ length l.initial.out) × Painted l.out l.initial.out 0 (l.t * 16) (tiles_byte l.rows)
+
+abbrev pub decreases-loop-t : goal.decreases-loop-t
+decreases-loop-t l = 256 - l.t

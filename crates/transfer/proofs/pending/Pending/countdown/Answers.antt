@@ -1,0 +1,12 @@
+-- One case each, as in the definition.
+use borrow.Author.Rules.{rules}
+use Rattle.transfer.specs.Pending.{countdown_of}
+use Rattle.transfer.proofs.pending.Pending.countdown.Goals as goal
+
+pub returns-in-Nothing : goal.returns-in-Nothing
+unfolding countdown_of
+returns-in-Nothing c = rw c.enum_told-1.given.1
+
+pub returns-in-In : goal.returns-in-In
+unfolding countdown_of
+returns-in-In c = rw c.self-1.given.1

@@ -1,0 +1,17 @@
+-- A countdown of at most 1 lands its transfer, any other nothing.
+use borrow.Author.Tests.{le-leb, lt-leb}
+use borrow.Author.Rules.{rules}
+use Rattle.transfer.specs.Pending.{lands}
+use Rattle.transfer.proofs.pending.Pending.lands.Goals as goal
+
+pub returns-then-countdown-le1 : goal.returns-then-countdown-le1
+unfolding lands
+returns-then-countdown-le1 c = rw (c.self-1.given.1, le-leb _ 1 c.if-countdown-le1.true)
+
+pub returns-in-Nothing : goal.returns-in-Nothing
+unfolding lands
+returns-in-Nothing c = rw c.enum_told-1.given.1
+
+pub returns-else-countdown-le1 : goal.returns-else-countdown-le1
+unfolding lands
+returns-else-countdown-le1 c = rw (c.self-1.given.1, lt-leb _ 1 c.if-countdown-le1.false)

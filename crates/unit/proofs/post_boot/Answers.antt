@@ -1,0 +1,11 @@
+-- `unit::post_boot` meets its contract: another length is refused, and else the worker makes the block.
+use borrow.Author.Rules.{rules}
+use Rattle.unit.proofs.Calling.{boot-refused, boot_made}
+use Rattle.bits.proofs.Named.{as-value-block_after}
+use Rattle.unit.proofs.post_boot.Goals as goal
+
+pub returns-then-block-ne-BLOCK : goal.returns-then-block-ne-BLOCK
+returns-then-block-ne-BLOCK c = as-value-block_after (boot-refused _ c.if-block-ne-BLOCK.true)
+
+pub returns : goal.returns
+returns c = as-value-block_after (boot_made _ _ c.if-block-ne-BLOCK.false c.post_boot.ensures)
