@@ -9,4 +9,4 @@ unfolding blk_cell
 returns c =
     let l = c in
     c.pick.ensures
-    ∙ rw (l.both.ensures, l.before.strictly2.ensures, l.before.before.strictly.ensures, c.both-covered.ensures, c.within-2.ensures, c.within.ensures)
+    ∙ rw (l.both-inner.ensures, l.strictly-2.ensures, l.strictly.ensures, c.both-covered.ensures, c.within-2.ensures, c.within.ensures)

@@ -10,12 +10,12 @@ pub returns : goal.returns
 unfolding eight_at
 returns c =
     let c7 = c in
-    let c6 = c7.before.before in
-    let c5 = c6.before.before in
-    let c4 = c5.before.before in
-    let c3 = c4.before.before in
-    let c2 = c3.before.before in
-    let c1 = c2.before.before in
-    eight-bytes _ _ _ _ _ _ _ _ c1.wide.ensures.1 c2.wide2.ensures.1 c3.wide3.ensures.1 c4.wide4.ensures.1 c5.wide5.ensures.1 c6.wide6.ensures.1 c7.wide7.ensures.1 c.wide-8.ensures.1
-    ∙ (λ i. c1.wide.ensures.0 i + c2.wide2.ensures.0 i * 256 + c3.wide3.ensures.0 i * 65536 + c4.wide4.ensures.0 i * 16777216 + c5.wide5.ensures.0 i * 4294967296
-    + c6.wide6.ensures.0 i * 1099511627776 + c7.wide7.ensures.0 i * 281474976710656 + c.wide-8.ensures.0 i * 72057594037927936)
+    let c6 = c7 in
+    let c5 = c6 in
+    let c4 = c5 in
+    let c3 = c4 in
+    let c2 = c3 in
+    let c1 = c2 in
+    eight-bytes _ _ _ _ _ _ _ _ c1.wide.ensures.1 c2.wide-2.ensures.1 c3.wide-3.ensures.1 c4.wide-4.ensures.1 c5.wide-5.ensures.1 c6.wide-6.ensures.1 c7.wide-7.ensures.1 c.wide-8.ensures.1
+    ∙ (λ i. c1.wide.ensures.0 i + c2.wide-2.ensures.0 i * 256 + c3.wide-3.ensures.0 i * 65536 + c4.wide-4.ensures.0 i * 16777216 + c5.wide-5.ensures.0 i * 4294967296
+    + c6.wide-6.ensures.0 i * 1099511627776 + c7.wide-7.ensures.0 i * 281474976710656 + c.wide-8.ensures.0 i * 72057594037927936)

@@ -6,8 +6,8 @@ use Rattle.block_broken.proofs.numbered.Goals as goal
 
 pub returns-in-Nothing : goal.returns-in-Nothing
 unfolding number_of found_told
-returns-in-Nothing c = rw c.enum_told-1.given.1
+returns-in-Nothing c = rw c.in-Nothing.is
 
 pub returns-in-At : goal.returns-in-At
 unfolding number_of found_told
-returns-in-At c = rw c.found-1.given.1
+returns-in-At c = rw c.in-At.is

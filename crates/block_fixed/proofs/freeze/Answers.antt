@@ -34,9 +34,9 @@ put-requires-2 c =
 pub shape_of-block : goal.shape_of-block
 shape_of-block c =
     let p = c in
-    frozen-long _ p.before.before.before.before.before.requires _ _ (shot p) c.put-2.ensures
+    frozen-long _ p.requires _ _ (shot p) c.put-2.ensures
 
 pub returns : goal.returns
 returns c =
     let p = c in
-    frozen-put _ p.before.before.before.before.before.requires _ _ (shot p) c.put-2.ensures
+    frozen-put _ p.requires _ _ (shot p) c.put-2.ensures

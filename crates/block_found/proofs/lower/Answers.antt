@@ -6,7 +6,7 @@ use Rattle.block_found.proofs.lower.Goals as goal
 
 pub returns-in-Nothing : goal.returns-in-Nothing
 unfolding found_told lower
-returns-in-Nothing c = rw c.enum_told-1.given.1
+returns-in-Nothing c = rw c.in-Nothing.is
 
 pub returns-in-At : goal.returns-in-At
-returns-in-At c = rw c.a-1.given.1 c.lower_than.ensures
+returns-in-At c = rw c.in-At.is c.lower_than.ensures

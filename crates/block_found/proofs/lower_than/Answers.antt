@@ -9,12 +9,12 @@ use Rattle.block_found.proofs.lower_than.Goals as goal
 
 pub returns-in-Nothing : goal.returns-in-Nothing
 unfolding found_told lower
-returns-in-Nothing c = rw c.enum_told-1.given.1
+returns-in-Nothing c = rw c.in-Nothing.is
 
 pub returns-then-i-j : goal.returns-then-i-j
 unfolding found_told lower
-returns-then-i-j c = rw c.b-1.given.1 (ap some (omega arith))
+returns-then-i-j c = rw c.in-At.is (ap some (omega arith))
 
 pub returns-else-i-j : goal.returns-else-i-j
 unfolding found_told lower
-returns-else-i-j c = rw c.b-1.given.1 (ap some (omega arith))
+returns-else-i-j c = rw c.in-At.is (ap some (omega arith))

@@ -8,17 +8,17 @@ use Rattle.block_picture.proofs.draw_picture.Goals as goal
 pub picture-requires : goal.picture-requires
 picture-requires c =
     let d = c in
-    let m = d.before.before in
-    let made = m.before.before.before.before.before.before in
-    let start = made.before.before.before.before.before.before in
-    (record { tiles_long = m.before.tiles.ensures.1; map_long = m.map.ensures.1; attributes_long = d.before.attributes.ensures.1; screen_long = d.shown.ensures.1 }, (tables-are _ _ _ _ made.tables.ensures, start.requires.1))
+    let m = d in
+    let made = m in
+    let start = made in
+    (record { tiles_long = m.tiles.ensures.1; map_long = m.map.ensures.1; attributes_long = d.attributes.ensures.1; screen_long = d.shown.ensures.1 }, (tables-are _ _ _ _ made.tables.ensures, start.requires.in_bounds))
 
 pub returns : goal.returns
 unfolding picture_drawn
 returns c =
     let d = c in
-    let m = d.before.before in
-    let made = m.before.before.before.before.before.before in
-    let start = made.before.before.before.before.before.before in
-    picture-is (parts_of (load start.args.block.now)) _ _ _ made.tables.ensures m.before.tiles.ensures.0 m.map.ensures.0 d.before.attributes.ensures.0 d.shown.ensures.0
-    _ _ c.picture.ensures start.requires.1
+    let m = d in
+    let made = m in
+    let start = made in
+    picture-is (parts_of (load start.args.block.now)) _ _ _ made.tables.ensures m.tiles.ensures.0 m.map.ensures.0 d.attributes.ensures.0 d.shown.ensures.0
+    _ _ c.picture.ensures start.requires.in_bounds

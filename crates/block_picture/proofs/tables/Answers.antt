@@ -8,10 +8,10 @@ use Rattle.block_picture.proofs.tables.Goals as goal
 pub returns : goal.returns
 returns c =
     let t = c in
-    let b = t.before.before.before.before in
-    let m = b.before in
-    let f = m.before in
-    let s = f.before in
-    let p = s.before in
-    tables_of (parts_of (load c.args.block.now)) p.palettes.ensures.0 s.preset.ensures.0 f.in-force.ensures m.mode.ensures b.borders.ensures.0
+    let b = t in
+    let m = b in
+    let f = m in
+    let s = f in
+    let p = s in
+    tables_of (parts_of (load c.args.block.now)) p.palettes.ensures.0 s.preset.ensures.0 f.in_force.ensures m.mode.ensures b.borders.ensures.0
     t.tables.ensures.0 t.tables.ensures.1.0 t.tables.ensures.1.1

@@ -11,7 +11,7 @@ pub returns : goal.returns
 unfolding load landing
 returns c =
     let store = c in
-    let fall = store.before.before in
-    let load = fall.before in
-    let start = load.before.before.before.before in
-    (c.lands.ensures ∙ ap pending.lands load.load.ensures, counted-down start.args.block.now _ _ _ load.load.ensures fall.fall.ensures store.store-pending.ensures)
+    let fall = store in
+    let load = fall in
+    let start = load in
+    (c.lands.ensures ∙ ap pending.lands load.load-pending.ensures, counted-down start.args.block.now _ _ _ load.load-pending.ensures fall.fall-left.ensures store.store_pending.ensures)

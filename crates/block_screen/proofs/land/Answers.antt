@@ -5,7 +5,7 @@ use borrow.Author.Rules.{rules}
 use Rattle.block_screen.proofs.land.Goals as goal
 
 pub returns-in-Nothing : goal.returns-in-Nothing
-returns-in-Nothing c = nothing-landed _ c.requires.0 c.args.screen.now ∙ rw c.enum_told-1.given.1
+returns-in-Nothing c = nothing-landed _ c.requires.0 c.args.screen.now ∙ rw c.in-Nothing.is
 
 pub returns-in-Page : goal.returns-in-Page
-returns-in-Page c = c.land_page.ensures ∙ rw c.landed-1.given.1
+returns-in-Page c = c.land_page.ensures ∙ rw c.in-Page.is

@@ -13,13 +13,13 @@ land_map-requires c =
     (length_part border_map_at border_bytes start.args.block.now (omega (arith, start.requires.0.long)), start.requires.1)
 
 pub returns-in-Palettes : goal.returns-in-Palettes
-returns-in-Palettes c = palettes-landed _ c.requires.0 _ _ c.land_palettes.ensures ∙ rw c.enum_told-1.given.1
+returns-in-Palettes c = palettes-landed _ c.requires.0 _ _ c.land_palettes.ensures ∙ rw c.in-Palettes.is
 
 pub returns-in-Attributes : goal.returns-in-Attributes
-returns-in-Attributes c = files-landed _ c.requires.0 _ _ c.land_files.ensures ∙ rw c.enum_told-in-Attributes-1.given.1
+returns-in-Attributes c = files-landed _ c.requires.0 _ _ c.land_files.ensures ∙ rw c.in-Attributes.is
 
 pub returns-in-BorderTiles : goal.returns-in-BorderTiles
-returns-in-BorderTiles c = c.land_half.ensures ∙ rw c.t-1.given.1
+returns-in-BorderTiles c = c.land_half.ensures ∙ rw c.in-BorderTiles.is
 
 pub returns-in-BorderMap : goal.returns-in-BorderMap
-returns-in-BorderMap c = border-landed _ c.requires.0 _ _ c.land_map.ensures ∙ rw c.enum_told-in-BorderMap-1.given.1
+returns-in-BorderMap c = border-landed _ c.requires.0 _ _ c.land_map.ensures ∙ rw c.in-BorderMap.is

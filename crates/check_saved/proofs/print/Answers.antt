@@ -11,7 +11,7 @@ pub returns-in-Ended : goal.returns-in-Ended
 returns-in-Ended c =
     let args = c.args in
     let v = c.verdict in
-    let is = c.enum_told-1.given.1 in
+    let is = c.in-Ended.is in
     told-ended check_text args.read.got args.read.end args.saved.now v.result args.tally.now v.new.tally v.ensures is
 
 pub returns-in-Full : goal.returns-in-Full
@@ -19,11 +19,11 @@ returns-in-Full c =
     let start = c in
     let args = start.args in
     let v = c.verdict-in-Full in
-    let is = c.enum_told-in-Full-1.given.1 in
+    let is = c.in-Full.is in
     told-full check_text args.read.got args.read.end args.saved.now v.result args.tally.now v.new.tally v.ensures
-    saved_bytes start.requires.1.0 however_it-goes_on start.requires.0 is
+    saved_bytes start.requires.saved_len.0 however_it-goes_on start.requires.came is
 
 pub returns-in-Failed : goal.returns-in-Failed
 returns-in-Failed c =
     let args = c.args in
-    told_failed check_text args.read.end (take args.read.got args.saved.now) args.tally.now c.enum_told-in-Failed-1.given.1
+    told_failed check_text args.read.end (take args.read.got args.saved.now) args.tally.now c.in-Failed.is

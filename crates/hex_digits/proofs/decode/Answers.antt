@@ -17,7 +17,7 @@ two_digits-requires c =
     let start = c in
     let s = start.args.text.now in
     let i = c.loop-i.i in
-    (digit_at s start.requires.0 (2 * i) (omega arith), digit_at s start.requires.0 (2 * i + 1) (omega arith))
+    (digit_at s start.requires.text_value (2 * i) (omega arith), digit_at s start.requires.text_value (2 * i + 1) (omega arith))
 
 pub loop-i-preserved : goal.loop-i-preserved
 loop-i-preserved c =
@@ -26,7 +26,7 @@ loop-i-preserved c =
       omega arith,
       (
         simp length-set l.invariant.1.0,
-        decode_turn start.args.text.now start.args.bytes.now l.bytes l.i _ start.requires.0 (omega arith) (omega arith) c.two_digits.ensures l.invariant.1.1,
+        decode_turn start.args.text.now start.args.bytes.now l.bytes l.i _ start.requires.text_value (omega arith) (omega arith) c.two_digits.ensures l.invariant.1.1,
       ),
     )
 
@@ -34,5 +34,5 @@ pub returns : goal.returns
 returns c =
     let start = c in
     let s = start.args.text.now in
-    let e : c.loop-i.i ≡ length (spelled s) = omega (arith, length-spelled s start.requires.0) in
+    let e : c.loop-i.i ≡ length (spelled s) = omega (arith, length-spelled s start.requires.text_value) in
     c.loop-i.invariant.1.1 ∙ rw e (paste-over start.args.bytes.now 0 (spelled s))

@@ -17,7 +17,7 @@ pub loop-i-preserved : goal.loop-i-preserved
 loop-i-preserved c =
     let a = c.loop-i in
     let text = c.args.text.now in (
-      ap (λ (x : ℕ). tallied x (drop (a.i + 1) text)) (c.wrapping_add_u64-tally.ensures ∙ ap (λ (b : ℕ). (a.tally + (4294967296 + b)) % 2 ^ 64) c.wide-b.ensures.0)
+      ap (λ (x : ℕ). tallied x (drop (a.i + 1) text)) (c.wrapping_add_u64-tally.ensures.value ∙ ap (λ (b : ℕ). (a.tally + (4294967296 + b)) % 2 ^ 64) c.wide-b.ensures.0)
           ∙ tallied_turn a.tally text a.i c.loop-i-test.true ∙ a.invariant.0,
       (omega arith, a.invariant.1.1),
     )

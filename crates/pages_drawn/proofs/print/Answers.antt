@@ -11,7 +11,7 @@ pub returns-in-Ended : goal.returns-in-Ended
 returns-in-Ended c =
     let args = c.args in
     let t = c.tell in
-    let is = c.enum_told-1.given.1 in
+    let is = c.in-Ended.is in
     told-ended page_text args.read.got args.read.end args.input.now t.result args.tally.now t.new.tally t.ensures is
 
 pub returns-in-Full : goal.returns-in-Full
@@ -19,11 +19,11 @@ returns-in-Full c =
     let start = c in
     let args = start.args in
     let t = c.tell-in-Full in
-    let is = c.enum_told-in-Full-1.given.1 in
+    let is = c.in-Full.is in
     told-full page_text args.read.got args.read.end args.input.now t.result args.tally.now t.new.tally t.ensures
-    input_bytes start.requires.1.0 however_it-goes_on start.requires.0 is
+    input_bytes start.requires.input_len.0 however_it-goes_on start.requires.came is
 
 pub returns-in-Failed : goal.returns-in-Failed
 returns-in-Failed c =
     let args = c.args in
-    told_failed page_text args.read.end (take args.read.got args.input.now) args.tally.now c.enum_told-in-Failed-1.given.1
+    told_failed page_text args.read.end (take args.read.got args.input.now) args.tally.now c.in-Failed.is

@@ -15,7 +15,7 @@ returns-in-Refused c =
     let asked = c.page_screen-answer in
     let number = c.number in
     let line = c.number_line.ensures in
-    let told = sym (ap number_told c.answer-1.given.1) ∙ asked.ensures.result_value in
+    let told = sym (ap number_told c.in-Refused.is) ∙ asked.ensures.result_value in
     as-value-upper_bound-out_after (rw (text-refused start.args.came.now start.args.screen.now start.requires.0 _ number.result told number.ensures)
     (line.0, (omega arith, line.1.1)))
 
@@ -25,6 +25,6 @@ returns-in-Is c =
     let start = c in
     let asked = c.page_screen-answer in
     let left = asked.new.screen.0 in
-    let told = sym (ap number_told c.enum_told-1.given.1) ∙ asked.ensures.result_value in
+    let told = sym (ap number_told c.in-Is.is) ∙ asked.ensures.result_value in
     as-value-upper_bound-out_after (rw (text-given start.args.came.now start.args.screen.now start.requires.0 _ left told asked.ensures.screen_after)
     (sym (length_graymap left), (omega arith, graymap_all left start.args.out.now _ start.requires.1 c.graymap.ensures)))

@@ -12,9 +12,9 @@ pub returns : goal.returns
 unfolding pal_pair
 returns c =
     let second = c in
-    let first = second.before.before.before.before.before in
-    let share = first.before.before.before.before.before in
-    let d = share.before.before.before.before.args.d.now in
+    let first = second in
+    let share = first in
+    let d = share.args.d.now in
     let k : length (part 3 6 d) ≡ 6 = length_part 3 6 d (omega arith) in
     let l : length (part 9 6 d) ≡ 6 = length_part 9 6 d (omega arith) in
-    second.put2.ensures ∙ rw (first.put.ensures, share.share.ensures, k, l)
+    second.put-2.ensures ∙ rw (first.put.ensures, share.share.ensures, k, l)

@@ -21,13 +21,13 @@ pub loop-i-preserved : goal.loop-i-preserved
 unfolding chosen
 loop-i-preserved c =
     let put = c in
-    let number = put.before.before.before.system-number in
-    let loop = put.before.before.before.before.before.loop in
-    let system = put.before.before.before.before.before.before.before.before.before.args.system.now in
+    let number = put.system_number-at in
+    let loop = put.loop-i in
+    let system = put.args.system.now in
     let n = number.result in
     let k : 8 * n + 8 - 8 * n ≡ 8 = omega arith in
     let l : length (part (8 * n) 8 system) ≡ 8 = length_part (8 * n) 8 system (omega arith) in
-    let e : put.put.new.0 ≡ over (8 * loop.i) 8 (part (8 * n) 8 system) loop.palettes = put.put.ensures ∙ rw (k, l) in
+    let e : put.put.new.dst ≡ over (8 * loop.i) 8 (part (8 * n) 8 system) loop.palettes = put.put.ensures ∙ rw (k, l) in
     (omega arith, rw e (length_over (8 * loop.i) 8 (part (8 * n) 8 system) loop.palettes (omega arith) l ∙ loop.invariant.1), chosen_more loop.invariant.2 (search rules) (e ∙ rw number.ensures.0))
 
 pub returns : goal.returns

@@ -12,9 +12,9 @@ pub returns : goal.returns
 unfolding shared
 returns c =
     let four = c in
-    let three = four.before.before.before.before in
-    let two = three.before.before.before.before in
-    let one = two.before.before.before.before in
-    let d = one.before.before.before.before.before.args.d.now in
+    let three = four in
+    let two = three in
+    let one = two in
+    let d = one.args.d.now in
     let l : length (part 1 2 d) ≡ 2 = length_part 1 2 d (omega arith) in
-    four.put4.ensures ∙ rw (three.put3.ensures, two.put2.ensures, one.put.ensures, l)
+    four.put-4.ensures ∙ rw (three.put-3.ensures, two.put-2.ensures, one.put.ensures, l)

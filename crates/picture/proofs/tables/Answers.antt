@@ -10,4 +10,4 @@ pub returns : goal.returns
 returns c =
     let l = c in
     let a = c.args in
-    record { spreads_after = c.fill_spreads.ensures; border_after = l.border-colors.ensures ∙ ap (λ (k : ℕ). tab 48 (border_color a.borders.now k)) l.before.before.backdrop.ensures; game_after = c.game_colors.ensures }
+    record { spreads_after = c.fill_spreads.ensures; border_after = l.border_colors.ensures ∙ ap (λ (k : ℕ). tab 48 (border_color a.borders.now k)) l.backdrop-back.ensures; game_after = c.game_colors.ensures }

@@ -19,11 +19,11 @@ loop-j-preserved c =
     let l = c.loop-j in
     let a = c.args in
     let shade = c in
-    let nibble = shade.before in
+    let nibble = shade in
     let seen =
     c.over.ensures
-    ∙ (λ t. cond (eqb nibble.nibble.result 0) (c.color_in-in-loop-j.ensures t) (c.color_in.ensures t))
-    ∙ ap₂ (λ (i h : ℕ). run_pixel i a.border.now a.base (get_or a.game.now (a.n + h) 0)) nibble.nibble.ensures.0 shade.shade.ensures.0 in
+    ∙ (λ t. cond (eqb nibble.nibble-i.result 0) (c.color_in-in-loop-j.ensures t) (c.color_in.ensures t))
+    ∙ ap₂ (λ (i h : ℕ). run_pixel i a.border.now a.base (get_or a.game.now (a.n + h) 0)) nibble.nibble-i.ensures.0 shade.shade-h.ensures.0 in
     (omega arith, simp length-set l.invariant.1, painted_turn l.invariant.2 _ _ refl seen)
 
 pub shape_of-out : goal.shape_of-out

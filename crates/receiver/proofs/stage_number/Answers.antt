@@ -5,12 +5,12 @@ use Rattle.receiver.proofs.stage_number.Goals as goal
 
 pub returns-in-Idle : goal.returns-in-Idle
 unfolding stage_number
-returns-in-Idle c = rw c.enum_told-1.given.1
+returns-in-Idle c = rw c.in-Idle.is
 
 pub returns-in-Receiving : goal.returns-in-Receiving
 unfolding stage_number
-returns-in-Receiving c = rw c.enum_told-in-Receiving-1.given.1
+returns-in-Receiving c = rw c.in-Receiving.is
 
 pub returns-in-Awaiting : goal.returns-in-Awaiting
 unfolding stage_number
-returns-in-Awaiting c = rw c.enum_told-in-Awaiting-1.given.1
+returns-in-Awaiting c = rw c.in-Awaiting.is

@@ -6,8 +6,8 @@ use Rattle.view.proofs.shown_of.Goals as goal
 
 pub returns-in-Transparent : goal.returns-in-Transparent
 unfolding border_told colour_of
-returns-in-Transparent c = rw c.enum_told-1.given.1
+returns-in-Transparent c = rw c.in-Transparent.is
 
 pub returns-in-Opaque : goal.returns-in-Opaque
 unfolding border_told colour_of
-returns-in-Opaque c = rw c.color-1.given.1
+returns-in-Opaque c = rw c.in-Opaque.is

@@ -9,67 +9,67 @@ use Rattle.commands.proofs.decoding.decode.Goals as goal
 
 pub returns-in-0 : goal.returns-in-0
 unfolding decode code_of find told told_plain
-returns-in-0 c = rw c.in-0.keys1
+returns-in-0 c = rw c.in-0.is
 
 pub returns-in-1 : goal.returns-in-1
 unfolding decode code_of find told told_plain
-returns-in-1 c = rw c.in-1.keys2
+returns-in-1 c = rw c.in-1.is
 
 pub returns-in-2 : goal.returns-in-2
 unfolding decode code_of find told told_plain
-returns-in-2 c = rw c.in-2.keys3
+returns-in-2 c = rw c.in-2.is
 
 pub returns-in-3 : goal.returns-in-3
 unfolding decode code_of find told told_plain
-returns-in-3 c = rw c.in-3.keys4
+returns-in-3 c = rw c.in-3.is
 
 pub returns-in-4 : goal.returns-in-4
 unfolding decode code_of find told told_plain
-returns-in-4 c = rw c.in-4.keys5
+returns-in-4 c = rw c.in-4.is
 
 pub returns-in-5 : goal.returns-in-5
 unfolding decode code_of find told told_plain
-returns-in-5 c = rw c.in-5.keys6
+returns-in-5 c = rw c.in-5.is
 
 pub returns-in-6 : goal.returns-in-6
 unfolding decode code_of find told told_plain
-returns-in-6 c = rw c.in-6.keys7
+returns-in-6 c = rw c.in-6.is
 
 pub returns-in-7 : goal.returns-in-7
 unfolding decode code_of find told told_plain
-returns-in-7 c = rw c.in-7.keys8
+returns-in-7 c = rw c.in-7.is
 
 pub returns-in-10 : goal.returns-in-10
 unfolding decode code_of find told told_fixed
-returns-in-10 c = rw c.in-10.keys9
+returns-in-10 c = rw c.in-10.is
 
 pub returns-in-11 : goal.returns-in-11
 unfolding decode code_of find told told_fixed
-returns-in-11 c = rw c.in-11.keys10
+returns-in-11 c = rw c.in-11.is
 
 pub returns-in-17 : goal.returns-in-17
 unfolding decode code_of find told told_plain
-returns-in-17 c = rw c.in-17.keys11
+returns-in-17 c = rw c.in-17.is
 
 pub returns-in-19 : goal.returns-in-19
 unfolding decode code_of find
-returns-in-19 c = c.tiles.ensures _ ∙ rw (c.in-19.keys12, ← flag (get_or c.args.d.now 1 0) 0)
+returns-in-19 c = c.tiles.ensures _ ∙ rw (c.in-19.is, ← flag (get_or c.args.d.now 1 0) 0)
 
 pub returns-in-20 : goal.returns-in-20
 unfolding decode code_of find told told_fixed
-returns-in-20 c = rw c.in-20.keys13
+returns-in-20 c = rw c.in-20.is
 
 pub returns-in-21 : goal.returns-in-21
 unfolding decode code_of find told told_fixed
-returns-in-21 c = rw c.in-21.keys14
+returns-in-21 c = rw c.in-21.is
 
 pub returns-in-22 : goal.returns-in-22
 unfolding decode code_of find told told_fixed
-returns-in-22 c = rw c.in-22.keys15
+returns-in-22 c = rw c.in-22.is
 
 pub returns-in-23 : goal.returns-in-23
 unfolding decode code_of find
-returns-in-23 c = c.masking.ensures _ ∙ rw c.in-23.keys16 (simp pair-mask)
+returns-in-23 c = c.masking.ensures _ ∙ rw c.in-23.is (simp pair-mask)
 
 pub returns-in_default : goal.returns-in_default
 unfolding decode code_of told told_plain

@@ -12,11 +12,11 @@ pub returns-then-n-lt45 : goal.returns-then-n-lt45
 unfolding attr_set_map file_of
 returns-then-n-lt45 c =
     let put = c in
-    let n = put.before.before.before.before.wide.result in
-    let s = put.before.before.before.before.before.before.before.args in
+    let n = put.wide-n.result in
+    let s = put.args in
     let k : map_bytes * n + map_bytes - map_bytes * n ≡ map_bytes = omega arith in
     let l : length (part (map_bytes * n) map_bytes s.files.now) ≡ map_bytes = length_part (map_bytes * n) map_bytes s.files.now (omega arith) in
-    let e : n ≡ s.flags % 64 = put.before.before.before.before.wide.ensures.0 ∙ and_mask s.flags 6 in
+    let e : n ≡ s.flags % 64 = put.wide-n.ensures.0 ∙ and_mask s.flags 6 in
     let lt : s.flags % 64 < file_count = omega arith in
     put.put.ensures ∙ rw (k, l) (over_all map_bytes (part (map_bytes * n) map_bytes s.files.now) s.map.now (search rules) ∙ rw (e, lt-ltb _ _ lt))
 

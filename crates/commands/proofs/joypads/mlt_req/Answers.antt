@@ -9,7 +9,7 @@ unfolding mlt_req mlt_index
 returns-then-mask-eq2 c =
     let s = c.args in
     let e : s.d1 % 4 ≡ 2 = sym (pair-mask s.d1) ∙ c.if-mask-eq2.true in
-    simp (pair-mask, eq-eqb _ _ e, c.wrapping_add_u8.ensures)
+    simp (pair-mask, eq-eqb _ _ e, c.wrapping_add_u8.ensures.value)
 
 pub returns : goal.returns
 unfolding mlt_req mlt_index

@@ -21,15 +21,15 @@ pub clock-requires : goal.clock-requires
 clock-requires c = (c.requires, mask_lt (c.args.value / 16) 1)
 
 pub returns-in-Idle : goal.returns-in-Idle
-returns-in-Idle c = c.quiet-in-Idle.ensures ∙ sym (low-idle (rx_of c.args.self) c.args.released (is-low c.args.value c.if-lines-eq48.false c.if-lines-eq0.false) c.enum_told-1.given.1)
+returns-in-Idle c = c.quiet-in-Idle.ensures ∙ sym (low-idle (rx_of c.args.self) c.args.released (is-low c.args.value c.if-lines-eq48.false c.if-lines-eq0.false) c.in-Idle.is)
 
 pub returns-in-Receiving : goal.returns-in-Receiving
 returns-in-Receiving c =
     rw c.if-released.true
-    (c.clock.ensures ∙ sym (on-low (rx_of c.args.self) true (is-low c.args.value c.if-lines-eq48.false c.if-lines-eq0.false) c.enum_told-in-Receiving-1.given.1))
+    (c.clock.ensures ∙ sym (on-low (rx_of c.args.self) true (is-low c.args.value c.if-lines-eq48.false c.if-lines-eq0.false) c.in-Receiving.is))
 
 pub returns-in-Awaiting : goal.returns-in-Awaiting
-returns-in-Awaiting c = c.quiet-in-Awaiting.ensures ∙ sym (low-awaiting (rx_of c.args.self) c.args.released (is-low c.args.value c.if-lines-eq48.false c.if-lines-eq0.false) c.enum_told-in-Awaiting-1.given.1)
+returns-in-Awaiting c = c.quiet-in-Awaiting.ensures ∙ sym (low-awaiting (rx_of c.args.self) c.args.released (is-low c.args.value c.if-lines-eq48.false c.if-lines-eq0.false) c.in-Awaiting.is)
 
 pub returns-else-released : goal.returns-else-released
 returns-else-released c = rw c.if-released.false (c.quiet-else-released.ensures ∙ sym (unreleased (rx_of c.args.self) (is-low c.args.value c.if-lines-eq48.false c.if-lines-eq0.false)))

@@ -7,23 +7,23 @@ use Rattle.receiver.specs.Store.{packets_of, filed}
 use Rattle.receiver.proofs.store.file.Goals as goal
 
 pub append-requires : goal.append-requires
-append-requires c = (rw c.done-1.given.1 at c.requires.0, c.requires.1)
+append-requires c = (rw c.in-Packet.is at c.requires.0, c.requires.1)
 
 pub overflow_sub-n : goal.overflow_sub-n
-overflow_sub-n c = (rw c.done-in-Command-1.given.1 at c.requires.0).0
+overflow_sub-n c = (rw c.in-Command.is at c.requires.0).0
 
 pub append-requires-in-Command : goal.append-requires-in-Command
 append-requires-in-Command c =
-    let h : 0 < _ × _ < 8 = rw c.done-in-Command-1.given.1 at c.requires.0 in (omega arith, c.requires.1)
+    let h : 0 < _ × _ < 8 = rw c.in-Command.is at c.requires.0 in (omega arith, c.requires.1)
 
 pub returns-in-Nothing : goal.returns-in-Nothing
 unfolding packets_of filed
-returns-in-Nothing c = rw c.enum_told-1.given.1 (refl, refl)
+returns-in-Nothing c = rw c.in-Nothing.is (refl, refl)
 
 pub returns-in-Packet : goal.returns-in-Packet
 unfolding packets_of filed
-returns-in-Packet c = rw c.done-1.given.1 (refl, c.append.ensures)
+returns-in-Packet c = rw c.in-Packet.is (refl, c.append.ensures)
 
 pub returns-in-Command : goal.returns-in-Command
 unfolding packets_of filed
-returns-in-Command c = rw c.done-in-Command-1.given.1 (refl, c.append-in-Command.ensures)
+returns-in-Command c = rw c.in-Command.is (refl, c.append-in-Command.ensures)

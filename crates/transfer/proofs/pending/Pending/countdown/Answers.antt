@@ -5,8 +5,8 @@ use Rattle.transfer.proofs.pending.Pending.countdown.Goals as goal
 
 pub returns-in-Nothing : goal.returns-in-Nothing
 unfolding countdown_of
-returns-in-Nothing c = rw c.enum_told-1.given.1
+returns-in-Nothing c = rw c.in-Nothing.is
 
 pub returns-in-In : goal.returns-in-In
 unfolding countdown_of
-returns-in-In c = rw c.self-1.given.1
+returns-in-In c = rw c.in-In.is

@@ -6,8 +6,8 @@ use Rattle.transfer.proofs.pending.Pending.kind.Goals as goal
 
 pub returns-in-Nothing : goal.returns-in-Nothing
 unfolding kind_of
-returns-in-Nothing c = rw c.enum_told-1.given.1
+returns-in-Nothing c = rw c.in-Nothing.is
 
 pub returns-in-In : goal.returns-in-In
 unfolding kind_of
-returns-in-In c = c.number.ensures ∙ rw c.self-1.given.1
+returns-in-In c = c.number.ensures ∙ rw c.in-In.is
