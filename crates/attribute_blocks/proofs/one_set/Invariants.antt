@@ -8,13 +8,13 @@ use Rattle.attribute_blocks.specs.Blk.{blk_cell}
 use Rattle.attribute_blocks.proofs.one_set.Given as goal
 
 abbrev pub invariant-loop-x : goal.invariant-loop-x
-invariant-loop-x l = (l.x ≤ 20) × Painting (λ l.x l.y. blk_cell l.s l.x l.y (cell l.map l.x l.y)) l.m l.y l.x
+invariant-loop-x l = (l.x ≤ 20) × Painting (λ x y. blk_cell l.s x y (cell l.map x y)) l.m l.y l.x
 
 abbrev pub decreases-loop-x : goal.decreases-loop-x
 decreases-loop-x l = 20 - l.x
 
 abbrev pub invariant-loop-y : goal.invariant-loop-y
-invariant-loop-y l = (l.y ≤ 18) × Painting (λ x l.y. blk_cell l.s x l.y (cell l.map x l.y)) l.m l.y 0
+invariant-loop-y l = (l.y ≤ 18) × Painting (λ x y. blk_cell l.s x y (cell l.map x y)) l.m l.y 0
 
 abbrev pub decreases-loop-y : goal.decreases-loop-y
 decreases-loop-y l = 18 - l.y

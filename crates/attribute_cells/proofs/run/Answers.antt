@@ -1,6 +1,5 @@
 -- Each turn puts the next pair at its place and goes on to the place after it.
 use mathlib.Core.Path.{◌≡◌, ap, ◌∙◌}
-use mathlib.Core.Logic.{⊎_elim}
 use Prim.Native.Nat.{◌≤◌, ◌+◌, ◌-◌}
 use native.Mathlib.Omega.{arith}
 use borrow.Author.Tests.{lt-ltb, le-ltb}
@@ -9,6 +8,7 @@ use Rattle.attribute_map.specs.Data.{steps}
 use Rattle.attribute_cells.specs.Chr.{place_of, put_at, pair_of_data}
 use Rattle.attribute_map.proofs.Steps.{After, after_none, after_more}
 use Rattle.attribute_cells.proofs.Places.{Placed, placed_none, placed-more, Near, near_next}
+use Rattle.attribute_cells.proofs.run.Goals.{then-x-lt20+then-y-lt18, then-x-lt20+else-y-lt18, else-x-lt20}
 use Rattle.attribute_cells.proofs.run.Goals as goal
 
 pub loop-k-init : goal.loop-k-init
@@ -26,12 +26,11 @@ unfolding pair_of_data put_at
 loop-k-preserved c =
     let l = c.loop-k in
     let put : c.if-x-lt20.m ≡ put_at l.s c.pair-v.result l.m =
-    ⊎_elim (λ w. rw (w.2, lt-ltb _ _ w.0.taken, lt-ltb _ _ w.1.taken))
-    (λ e.
-    ⊎_elim (λ w. rw (w.2, lt-ltb _ _ w.0.taken, le-ltb _ _ w.1.left))
-    (λ w. rw (w.1, le-ltb _ _ w.0.left))
-    e)
-    c.if-x-lt20.branch in (
+    elim c.if-x-lt20.branch [
+    | then-x-lt20+then-y-lt18 w ↦ rw (w.m-is, lt-ltb _ _ w.if-x-lt20.true, lt-ltb _ _ w.if-y-lt18.true)
+    | then-x-lt20+else-y-lt18 w ↦ rw (w.m-is, lt-ltb _ _ w.if-x-lt20.true, le-ltb _ _ w.if-y-lt18.false)
+    | else-x-lt20 w ↦ rw (w.m-is, le-ltb _ _ w.if-x-lt20.false)
+    ] in (
       omega arith,
       near_next _ l.invariant.1 c.next-s.ensures _ (omega arith),
       placed-more l.invariant.2 c.next-s.ensures,

@@ -10,9 +10,10 @@ use Rattle.layout.proofs.Saved.{long-part}
 use Rattle.block_fixed.proofs.Carried.{copied, frozen-put, frozen-long}
 use borrow.Author.Rules.{rules}
 use Rattle.block_fixed.proofs.freeze.Goals as goal
+use Rattle.block_fixed.proofs.freeze.Goals.{After-put}
 
 -- the local holds the live capture
-shot : (p : goal.After-put) → p.put.new.dst ≡ part live_at capture_bytes p.args.block.now
+shot : (p : After-put) → p.put.new.dst ≡ part live_at capture_bytes p.args.block.now
 shot p =
     let start = p in
     let n = long-part start.args.block.now start.requires.long live_at capture_bytes (lit≤ tt) in

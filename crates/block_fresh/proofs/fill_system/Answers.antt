@@ -10,10 +10,8 @@ use Rattle.bits.proofs.Overs.{length_over}
 use Rattle.bits.specs.Over.{over}
 use Rattle.layout.specs.Fresh.{times, word_bytes}
 use Rattle.block_fresh.proofs.Made.{fill_none, fill_turn}
+use Rattle.block_fresh.proofs.fill_system.Invariants.{palette}
 use Rattle.block_fresh.proofs.fill_system.Goals as goal
-
-abbrev palette : List ℕ
-palette = word_bytes (0x7FFF ∷ 0x56B5 ∷ 0x294A ∷ 0x0000 ∷ [])
 
 pub loop-i-init : goal.loop-i-init
 loop-i-init c = (omega arith, (c.requires, fill_none palette _))

@@ -12,9 +12,10 @@ use Rattle.receiver_run.specs.declared.Lines.{Lines}
 use Rattle.receiver_run.proofs.Turns.{ready-lined, same-port, same_count, goes_on, ends_with, at_end}
 use Rattle.receiver_polling.specs.Passing.{lines_after}
 use Rattle.receiver_fast.proofs.run_fast.Goals as goal
+use Rattle.receiver_fast.proofs.run_fast.Goals.{After-after-here}
 
 -- ---- a turn that is a write, when its lines are noted
-module _ (c : goal.After-after-here) where
+module _ (c : After-after-here) where
   abbrev met : Port
   met = let at = c.loop-i in port_of at.rx at.here at.store
 

@@ -12,33 +12,7 @@ use Rattle.receiver.specs.Receive.{rx_of}
 use Rattle.receiver.specs.Store.{packets_of}
 use Rattle.receiver_run.proofs.run.Goals as goal
 
--- ---- a turn, when both lines are noted
-module _ (c : goal.After-both_high-both) where
-  abbrev before : Port
-  before = let at = c.loop-i in port (rx_of at.rx) at.p15 at.both at.store
-
-  abbrev value : ℕ
-  value = get_or c.args.writes.now c.loop-i.i 0
-
-  same : port (rx_of c.write-w.result.next) c.p15_high-p15.result c.both_high-both.result c.file-n.new.store.0 ≡ lined before value
-  same =
-      let at = c.loop-i in
-      let w = c.write-w in
-      let t = c.file-n in
-      let p = c.p15_high-p15 in
-      same-port w.result at.rx at.p15 at.both value t.result p.result c.both_high-both.result at.store _
-      w.ensures p.ensures c.both_high-both.ensures t.ensures.1 t.ensures.0
-
-  count : c.file-n.result ≡ packets_of (step_at before value).done
-  count =
-      let at = c.loop-i in
-      let w = c.write-w in
-      let t = c.file-n in
-      let p = c.p15_high-p15 in
-      same_count w.result at.rx at.p15 at.both value t.result p.result c.both_high-both.result at.store _
-      w.ensures p.ensures c.both_high-both.ensures t.ensures.1 t.ensures.0
-
--- ---- the needs
+-- A turn, when both lines are noted: u is the port before it, v its write; e says what port it leaves, n how many packets it completes.
 pub loop-i-init : goal.loop-i-init
 loop-i-init c = (omega arith, (c.requires, refl))
 
@@ -60,10 +34,14 @@ shape_of-store-then-n-ne0 c =
     let x = c.index_after-index in
     let t = c.file-n in
     let h : at.i < length a.writes.now = c.loop-i-test.true in
-    let u = before c in
-    let v = value c in
-    let e = same c in
-    let n = count c in
+    let w = c.write-w in
+    let p = c.p15_high-p15 in
+    let u : Port = port (rx_of at.rx) at.p15 at.both at.store in
+    let v : ℕ = get_or a.writes.now at.i 0 in
+    let e : port (rx_of w.result.next) p.result c.both_high-both.result t.new.store ≡ lined u v =
+    same-port w.result at.rx at.p15 at.both v t.result p.result c.both_high-both.result at.store _ w.ensures p.ensures c.both_high-both.ensures t.ensures.1 t.ensures.0 in
+    let n : t.result ≡ packets_of (step_at u v).done =
+    same_count w.result at.rx at.p15 at.both v t.result p.result c.both_high-both.result at.store _ w.ensures p.ensures c.both_high-both.ensures t.ensures.1 t.ensures.0 in
     ap (λ (q : Port). length q.store) e ∙ (ready-lined u at.index a.mask v at.invariant.1.0).long ∙ sym c.requires.long
 
 pub returns-then-n-ne0 : goal.returns-then-n-ne0
@@ -73,10 +51,14 @@ returns-then-n-ne0 c =
     let x = c.index_after-index in
     let t = c.file-n in
     let h : at.i < length a.writes.now = c.loop-i-test.true in
-    let u = before c in
-    let v = value c in
-    let e = same c in
-    let n = count c in
+    let w = c.write-w in
+    let p = c.p15_high-p15 in
+    let u : Port = port (rx_of at.rx) at.p15 at.both at.store in
+    let v : ℕ = get_or a.writes.now at.i 0 in
+    let e : port (rx_of w.result.next) p.result c.both_high-both.result t.new.store ≡ lined u v =
+    same-port w.result at.rx at.p15 at.both v t.result p.result c.both_high-both.result at.store _ w.ensures p.ensures c.both_high-both.ensures t.ensures.1 t.ensures.0 in
+    let n : t.result ≡ packets_of (step_at u v).done =
+    same_count w.result at.rx at.p15 at.both v t.result p.result c.both_high-both.result at.store _ w.ensures p.ensures c.both_high-both.ensures t.ensures.1 t.ensures.0 in
     ap (λ (q : Port). record { port = q; index = x.result; at = at.i + 1; packets = t.result }) e
     ∙ ap (λ (j : ℕ). record { port = lined u v; index = j; at = at.i + 1; packets = t.result }) x.ensures
     ∙ ends_with a.mask at.i at.index u a.writes.now _ h at.invariant.1.1 t.result (sym n) c.if-n-ne0.true
@@ -88,10 +70,14 @@ loop-i-preserved c =
     let x = c.index_after-index in
     let t = c.file-n in
     let h : at.i < length a.writes.now = c.loop-i-test.true in
-    let u = before c in
-    let v = value c in
-    let e = same c in
-    let n = count c in
+    let w = c.write-w in
+    let p = c.p15_high-p15 in
+    let u : Port = port (rx_of at.rx) at.p15 at.both at.store in
+    let v : ℕ = get_or a.writes.now at.i 0 in
+    let e : port (rx_of w.result.next) p.result c.both_high-both.result t.new.store ≡ lined u v =
+    same-port w.result at.rx at.p15 at.both v t.result p.result c.both_high-both.result at.store _ w.ensures p.ensures c.both_high-both.ensures t.ensures.1 t.ensures.0 in
+    let n : t.result ≡ packets_of (step_at u v).done =
+    same_count w.result at.rx at.p15 at.both v t.result p.result c.both_high-both.result at.store _ w.ensures p.ensures c.both_high-both.ensures t.ensures.1 t.ensures.0 in
     let z : t.result ≡ 0 = omega arith in (
       omega arith,
       (

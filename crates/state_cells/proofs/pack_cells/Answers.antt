@@ -12,9 +12,6 @@ use Rattle.state_cells.specs.Cells.{pack_cells}
 use borrow.Author.Rules.{rules}
 use Rattle.state_cells.proofs.pack_cells.Goals as goal
 
-abbrev four_of : List ℕ → ℕ → ℕ
-four_of l i = packed (λ j. get_or l (4 * i + j) 0 % 4)
-
 pub loop-i-init : goal.loop-i-init
 loop-i-init c = (omega arith, search rules, painted_none)
 

@@ -11,6 +11,9 @@ use Rattle.state_cells.specs.Cells.{pack_cells}
 use borrow.Author.Rules.{rules}
 use Rattle.state_cells.proofs.pack_cells.Given as goal
 
+abbrev pub four_of : List ℕ → ℕ → ℕ
+four_of l i = packed (λ j. get_or l (4 * i + j) 0 % 4)
+
 abbrev pub invariant-loop-i : goal.invariant-loop-i
 invariant-loop-i l =
     (l.i ≤ length l.initial.packed) × (length l.packed ≡ length l.initial.packed) × Painted l.packed l.initial.packed 0 l.i (four_of l.cells)

@@ -11,10 +11,8 @@ use Rattle.bits.specs.Pair.{pair_of}
 use Rattle.state_cells.specs.Cells.{unpack_cells}
 use Rattle.state_cells.proofs.Celling.{pair-at}
 use borrow.Author.Rules.{rules}
+use Rattle.state_cells.proofs.unpack_cells.Invariants.{pair_in}
 use Rattle.state_cells.proofs.unpack_cells.Goals as goal
-
-abbrev pair_in : List ℕ → ℕ → ℕ
-pair_in l k = pair_of (get_or l (k / 4) 0) (k % 4)
 
 two-more : (n : ℕ) → n + 2 ≡ n + 1 + 1
 two-more n = omega arith

@@ -12,6 +12,9 @@ use Rattle.state_cells.proofs.Celling.{pair-at}
 use borrow.Author.Rules.{rules}
 use Rattle.state_cells.proofs.unpack_cells.Given as goal
 
+abbrev pub pair_in : List ℕ → ℕ → ℕ
+pair_in l k = pair_of (get_or l (k / 4) 0) (k % 4)
+
 abbrev pub invariant-loop-i : goal.invariant-loop-i
 invariant-loop-i l =
     (l.i ≤ length l.packed) × (length l.cells ≡ length l.initial.cells) × Painted l.cells l.initial.cells 0 (4 * l.i) (pair_in l.packed)

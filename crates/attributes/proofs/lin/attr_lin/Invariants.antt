@@ -9,7 +9,7 @@ use Rattle.attribute_map.proofs.Steps.{After, after_none, after_more}
 use Rattle.attributes.proofs.lin.attr_lin.Given as goal
 
 abbrev pub invariant-loop-i : goal.invariant-loop-i
-invariant-loop-i l = (l.i ≤ l.total) × (2 + l.total ≤ length l.d) × After (λ l.i. changed (lin_cell (get_or l.d (2 + l.i) 0))) l.initial.m l.m l.i
+invariant-loop-i l = (l.i ≤ l.total) × (2 + l.total ≤ length l.d) × After (λ i. changed (lin_cell (get_or l.d (2 + i) 0))) l.initial.m l.m l.i
 
 abbrev pub decreases-loop-i : goal.decreases-loop-i
 decreases-loop-i l = l.total - l.i

@@ -13,9 +13,10 @@ use Rattle.receiver.proofs.Sound.{sound-idle}
 use Rattle.receiver_run.specs.Run.{Ended, runs, port_of, Ready}
 use Rattle.receiver_run.proofs.Hears.{ready-runs, at_most, at_least}
 use Rattle.test_probe.proofs.logs.probe_log.Goals as goal
+use Rattle.test_probe.proofs.logs.probe_log.Goals.{After-struct_known-1}
 
 -- ---- after a run
-module _ (c : goal.After-struct_known-1) where
+module _ (c : After-struct_known-1) where
   abbrev met : Port
   met = let at = c.loop-at in port_of at.rx at.lines at.store
 
