@@ -4,7 +4,7 @@ use mathlib.Core.Bool.{false}
 use mathlib.Core.List.{List, [], ◌∷◌, ◌++◌}
 use Prim.Native.Nat.{ℕ, ◌-◌}
 use lib.ListN.{take, drop}
-use Rattle.bytes.specs.Bytes.{index_of, index_after}
+use Rattle.log_line.specs.Find.{index_of, index_after}
 use Rattle.hex_digits.specs.Hex.{nibble, before, paired, bytes_of}
 use Rattle.log_line.specs.Line.{line_digits, writes, refused, by_kind, by_bytes, meaning_of}
 use Rattle.log_line.specs.Lines.{last_line, lines_from, lines_of}

@@ -9,7 +9,7 @@ use native.Mathlib.Omega.{arith}
 use borrow.Author.Tests.{le-leb, lt-leb, leb-true, leb-false}
 use lib.Dec.{leb, eqb}
 use lib.ListN.{length, length-append}
-use Rattle.bytes.specs.Bytes.{index_of, index_after}
+use Rattle.log_line.specs.Find.{index_of, index_after}
 use Rattle.log_line.specs.Line.{line_digits, meaning_of}
 use Rattle.log_line.specs.Lines.{last_line, lines_from, lines_of, mark, grown, last_marked, marked_from, meaning_marked}
 use Rattle.log_line.proofs.Form.{refused_too_long}

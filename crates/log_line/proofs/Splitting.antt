@@ -4,16 +4,16 @@ use mathlib.Core.Bool.{Bool, true, false, cond}
 use mathlib.Core.Path.{◌≡◌, refl, ap, sym, ◌∙◌}
 use mathlib.Core.Option.{Option, none, some}
 use mathlib.Core.List.{List, [], ◌∷◌, ◌++◌, append_assoc}
+use native.Mathlib.Nat.{add-zero}
 use native.Mathlib.Numerals.{add-one}
 use native.Mathlib.Omega.{arith}
 use borrow.Author.Tests.{le-leb, lt-leb, leb-true, leb-false, eqb-true}
 use lib.Dec.{leb, eqb}
-use lib.ListN.{length, take, drop, get_or, length-append, length-take, length-drop, take-append-drop}
+use lib.ListN.{length, take, drop, get_or, length-append, length-take, length-drop, take-append-drop, drop_of_length-le}
 use lib.Seq.{take-length, take_all, take_at, drop-cons, drop-drop, length-take-le}
 use Rattle.bits.specs.Over.{over}
 use Rattle.bits.proofs.Overs.{length_over}
-use Rattle.bytes.specs.Bytes.{index_of, index_after}
-use Rattle.bytes.specs.Bytes.{slice as Bytes·slice}
+use Rattle.log_line.specs.Find.{index_of, index_after}
 use Rattle.log_line.specs.Line.{line_digits, refused, meaning_of}
 use Rattle.log_line.specs.Lines.{grown, marked_from, meaning_marked}
 use Rattle.log_line.specs.Split.{held_as, too_long, up_to_lf, lf_at, took_held, took_line, taken}
@@ -170,16 +170,12 @@ held-nothing h line t n = rw (t, n)
 
 -- ---- the code's step: e is where the next LF stands, or the chunk's end
 
-pub lf_found : (chunk : List ℕ) (at e : ℕ) → e ≡ at + index_of 10 (Bytes·slice at (length chunk) chunk) → e ≡ lf_at chunk at
-unfolding lf_at Bytes·slice
-lf_found chunk at e found = found ∙ ap (λ (l : List ℕ). at + index_of 10 (drop at l)) (take-length chunk)
-
 pub lf-from : (chunk : List ℕ) (at : ℕ) → at ≤ lf_at chunk at
 unfolding lf_at
 lf-from chunk at = omega arith
 
 -- a byte that is no LF goes by
-lf_past : (chunk : List ℕ) (k : ℕ) → k < length chunk → eqb (get_or chunk k 0) 10 ≡ false → lf_at chunk k ≡ lf_at chunk (k + 1)
+pub lf_past : (chunk : List ℕ) (k : ℕ) → k < length chunk → eqb (get_or chunk k 0) 10 ≡ false → lf_at chunk k ≡ lf_at chunk (k + 1)
 unfolding lf_at index_of index_after
 lf_past chunk k h e =
     let m : ℕ = index_of 10 (drop (suc k) chunk) in
@@ -188,6 +184,18 @@ lf_past chunk k h e =
     ∙ ap (λ (t : Bool). k + index_after t m) e
     ∙ s
     ∙ ap (λ (n : ℕ). n + index_of 10 (drop n chunk)) (sym (add-one k))
+
+-- the next LF stands here; there is none any more
+pub lf_here : (chunk : List ℕ) (k : ℕ) → k < length chunk → eqb (get_or chunk k 0) 10 ≡ true → lf_at chunk k ≡ k
+unfolding lf_at index_of index_after
+lf_here chunk k h e =
+    ap (λ (l : List ℕ). k + index_of 10 l) (drop-cons chunk k 0 h)
+    ∙ ap (λ (t : Bool). k + index_after t (index_of 10 (drop (suc k) chunk))) e
+    ∙ add-zero k
+
+pub lf_end : (chunk : List ℕ) (k : ℕ) → length chunk ≤ k → lf_at chunk k ≡ k
+unfolding lf_at index_of
+lf_end chunk k h = ap (λ (l : List ℕ). k + index_of 10 l) (drop_of_length-le chunk h) ∙ add-zero k
 
 pub lf_turn : (chunk : List ℕ) (at j n x : ℕ) → at + j < length chunk → (x ≡ 0 → eqb (get_or chunk (at + j) 0) 10 ≡ false)
     → (n ≡ 0 → lf_at chunk at ≡ lf_at chunk (at + j)) → n + x ≡ 0 → lf_at chunk at ≡ lf_at chunk (at + (j + 1))

@@ -4,7 +4,7 @@
 use Rattle.std.specs.Prelude.{ℕ, ◌+◌, true, false, cond, List, length, take, drop, leb}
 use Rattle.std.proofs.Math.Option.{Option, none, some}
 use Rattle.bits.specs.Over.{over}
-use Rattle.bytes.specs.Bytes.{index_of}
+use Rattle.log_line.specs.Find.{index_of}
 use Rattle.log_line.specs.Line.{line_digits}
 use Rattle.log_line.specs.declared.lines.Held.{Held}
 use Rattle.log_line.specs.declared.lines.Taken.{Taken}

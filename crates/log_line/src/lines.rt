@@ -73,7 +73,23 @@ fn find_lf(chunk: &[u8], at: usize) -> usize
     while is_clear(chunk, i) {
         i += STRIDE;
     }
-    bytes::scan::find(chunk, i, chunk.len(), 10)
+    find(chunk, i)
+}
+
+// The same, byte by byte.
+fn find(chunk: &[u8], at: usize) -> usize
+    requires { at ≤ length chunk.now }
+    ensures value { result ≡ lf_at chunk.now at }
+    ensures lower_bound { (at ≤ result) × (result ≤ length chunk.now) }
+{
+    let mut i = at;
+    while i < chunk.len() {
+        if chunk[i] == 10 {
+            return i;
+        }
+        i += 1;
+    }
+    i
 }
 
 // Whether a whole stride is left and has no LF.

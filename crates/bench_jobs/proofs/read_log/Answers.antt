@@ -1,0 +1,142 @@
+-- A turn takes a chunk by a fill; what is left of the input falls with it.
+use mathlib.Core.Path.{◌≡◌, refl, ap, ◌∙◌}
+use Prim.Native.Nat.{ℕ, ◌+◌, ◌-◌, ◌≤◌, ◌<◌}
+use mathlib.Core.List.{List}
+use native.Mathlib.Omega.{arith}
+use borrow.Author.Rules.{rules}
+use lib.ListN.{length, take, drop}
+use Rattle.log_chunks.specs.Steps.{desk, left}
+use Rattle.log_reader.specs.Fed.{out_bytes}
+use Rattle.log_reading.specs.declared.Reading.{Reading}
+use Rattle.bench_jobs.proofs.Chunks.{Within, begun-fit, part_is, within_on, ends-within, left-falls}
+use Rattle.bench_jobs.proofs.read_log.Goals as goal
+
+-- ---- before a fill
+module _ (c : goal.After-fill-arg-in-loop-reading-5-1) where
+  abbrev input : List ℕ
+  input = c.args.input.now
+
+  abbrev text : List ℕ
+  text = c.loop-reading.text
+
+  abbrev at : ℕ
+  at = c.loop-reading.at
+
+  abbrev n : ℕ
+  n = c.loop-reading.n
+
+  abbrev k : ℕ
+  k = c.chunk_size.result
+
+  goes : (out_bytes ≤ length text - n) × (0 < left c.loop-reading.reading (length input) at)
+  goes = c.goes_on.ensures c.loop-reading-test.true
+
+  room : n + out_bytes ≤ length text
+  room = omega (arith, goes.0, c.loop-reading.invariant.0.roomy, c.loop-reading.invariant.1.1.1.1.1.1)
+
+  long : at + k ≤ length input
+  long = omega (arith, c.chunk_size.ensures.0, c.loop-reading.invariant.0.within)
+
+  chunk-long : length (take (at + k - at) (drop at input)) ≡ k
+  chunk-long = part_is input at k long
+
+  out-long : length (take (n + out_bytes - n) (drop n text)) ≡ out_bytes
+  out-long = part_is text n out_bytes room
+
+pub loop-reading-init : goal.loop-reading-init
+loop-reading-init c =
+    let start = c in
+    let b = c.post_boot in (
+      record {
+        fit = begun-fit (desk start.args.block.now start.args.line.now start.args.bytes.now start.args.command.now) _ _ start.requires.0 b.ensures c.begin-reading.ensures;
+        within = omega arith;
+        numbered = omega (arith, ap (λ (r : Reading). r.number) c.begin-reading.ensures);
+        roomy = omega arith;
+      },
+      (omega arith, (refl, (refl, (refl, (refl, refl))))),
+    )
+
+pub overflow_sub-text : goal.overflow_sub-text
+overflow_sub-text c = omega (arith, c.loop-reading.invariant.0.roomy, c.loop-reading.invariant.1.1.1.1.1.1)
+
+pub goes_on-requires : goal.goes_on-requires
+goes_on-requires c = tt
+
+pub overflow_sub-input : goal.overflow_sub-input
+overflow_sub-input c = c.loop-reading.invariant.0.within
+
+pub chunk_size-requires : goal.chunk_size-requires
+chunk_size-requires c = omega (arith, c.requires.1)
+
+pub overflow_add-end : goal.overflow_add-end
+overflow_add-end c = omega (arith, c.chunk_size.ensures.0, c.loop-reading.invariant.0.within, c.requires.1)
+
+pub slice_bounds-fill-start : goal.slice_bounds-fill-start
+slice_bounds-fill-start c = omega (arith, c.loop-reading.invariant.0.within)
+
+pub slice_bounds-fill-end : goal.slice_bounds-fill-end
+slice_bounds-fill-end c = omega (arith, c.chunk_size.ensures.0, c.loop-reading.invariant.0.within)
+
+pub overflow_add-n : goal.overflow_add-n
+overflow_add-n c = omega (arith, (c.goes_on.ensures c.loop-reading-test.true).0, c.loop-reading.invariant.0.roomy, c.loop-reading.invariant.1.0, c.loop-reading.invariant.1.1.1.1.1.1)
+
+pub slice_bounds-fill-start-in-loop-reading : goal.slice_bounds-fill-start-in-loop-reading
+slice_bounds-fill-start-in-loop-reading c = omega (arith, c.loop-reading.invariant.0.roomy, c.loop-reading.invariant.1.1.1.1.1.1)
+
+pub slice_bounds-fill-end-in-loop-reading : goal.slice_bounds-fill-end-in-loop-reading
+slice_bounds-fill-end-in-loop-reading c = omega (arith, (c.goes_on.ensures c.loop-reading-test.true).0, c.loop-reading.invariant.0.roomy, c.loop-reading.invariant.1.1.1.1.1.1)
+
+pub fill-f-requires : goal.fill-f-requires
+fill-f-requires c =
+    let i = c.loop-reading.invariant.0 in
+    let m = c.chunk_size.ensures.1.0 in
+    (i.fit, ((omega (arith, chunk-long c, m, i.numbered, i.within, c.requires.1), (omega arith, omega (arith, chunk-long c, m))), omega (arith, out-long c)))
+
+pub overflow_add-at : goal.overflow_add-at
+overflow_add-at c =
+    let b = c in
+    let a = c.loop-reading in
+    let w = ends-within (length (input b)) _ a.reading (desk a.block a.line a.bytes a.command) a.at a.n _ _ c.fill-f.result _ _ a.invariant.0 c.fill-f.ensures (omega (arith, chunk-long b, long b)) in
+    omega (arith, w, c.requires.1)
+
+pub kept-n-requires : goal.kept-n-requires
+kept-n-requires c = tt
+
+pub overflow_add-n-in-loop-reading : goal.overflow_add-n-in-loop-reading
+overflow_add-n-in-loop-reading c =
+    let b = c in
+    omega (arith, c.kept-n.ensures, c.fill-f.ensures.fits, out-long b, room b, c.loop-reading.invariant.1.0, c.loop-reading.invariant.1.1.1.1.1.1)
+
+pub loop-reading-smaller : goal.loop-reading-smaller
+loop-reading-smaller c =
+    let b = c in
+    let a = c.loop-reading in
+    left-falls (length (input b)) _ a.reading (desk a.block a.line a.bytes a.command) a.at a.n _ _ c.fill-f.result _ _ a.invariant.0 c.fill-f.ensures (omega (arith, chunk-long b, long b)) (omega (arith, chunk-long b, c.chunk_size.ensures.1.1)) (omega (arith, out-long b)) (goes b).1
+
+pub loop-reading-preserved : goal.loop-reading-preserved
+loop-reading-preserved c =
+    let b = c in
+    let a = c.loop-reading in
+    let f = c.fill-f in
+    let l = a.invariant.1.1 in (
+      within_on (length (input b)) _ a.reading (desk a.block a.line a.bytes a.command) a.at a.n _ _ f.result _ _ a.invariant.0 f.ensures (omega (arith, chunk-long b, long b)) c.kept-n.result c.kept-n.ensures (omega (arith, out-long b, room b, l.1.1.1.1)),
+      (a.invariant.1.0, (f.auto.1.0 ∙ l.0, (f.auto.1.1.0 ∙ l.1.0, (f.auto.1.1.1.0 ∙ l.1.1.0, (f.auto.1.1.1.1.0 ∙ l.1.1.1.0, search rules))))),
+    )
+
+pub shape_of-block : goal.shape_of-block
+shape_of-block c = c.loop-reading.invariant.1.1.0 ∙ c.post_boot.auto.0
+
+pub shape_of-line : goal.shape_of-line
+shape_of-line c = c.loop-reading.invariant.1.1.1.0
+
+pub shape_of-bytes : goal.shape_of-bytes
+shape_of-bytes c = c.loop-reading.invariant.1.1.1.1.0
+
+pub shape_of-command : goal.shape_of-command
+shape_of-command c = c.loop-reading.invariant.1.1.1.1.1.0
+
+pub shape_of-text : goal.shape_of-text
+shape_of-text c = c.loop-reading.invariant.1.1.1.1.1.1
+
+pub returns : goal.returns
+returns c = (c.loop-reading.invariant.0.fit.valid, c.loop-reading.invariant.0.roomy)

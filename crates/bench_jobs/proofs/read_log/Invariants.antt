@@ -1,0 +1,19 @@
+use mathlib.Core.Path.{◌≡◌, refl, ap, ◌∙◌}
+use Prim.Native.Nat.{ℕ, ◌+◌, ◌-◌, ◌≤◌, ◌<◌}
+use mathlib.Core.List.{List}
+use native.Mathlib.Omega.{arith}
+use borrow.Author.Rules.{rules}
+use lib.ListN.{length, take, drop}
+use Rattle.log_chunks.specs.Steps.{desk, left}
+use Rattle.log_reader.specs.Fed.{out_bytes}
+use Rattle.log_reading.specs.declared.Reading.{Reading}
+use Rattle.bench_jobs.proofs.Chunks.{Within, begun-fit, part_is, within_on, ends-within, left-falls}
+use Rattle.bench_jobs.proofs.read_log.Given as goal
+
+abbrev pub invariant-loop-reading : goal.invariant-loop-reading
+invariant-loop-reading l =
+    Within (length l.input) (length l.initial.text) l.reading (desk l.block l.line l.bytes l.command) l.at l.n
+    × ((length l.initial.text < 18446744073709551616) × ((length l.block ≡ length l.initial.block) × ((length l.line ≡ length l.initial.line) × ((length l.bytes ≡ length l.initial.bytes) × ((length l.command ≡ length l.initial.command) × (length l.text ≡ length l.initial.text))))))
+
+abbrev pub decreases-loop-reading : goal.decreases-loop-reading
+decreases-loop-reading l = left l.reading (length l.input) l.at

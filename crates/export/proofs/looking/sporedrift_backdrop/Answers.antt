@@ -1,0 +1,8 @@
+-- What the call tells, as a number.
+use borrow.Author.Rules.{rules}
+use mathlib.Core.Path.{ap, ◌∙◌}
+use Rattle.export_answers.specs.Coded.{coded, value}
+use Rattle.export.proofs.looking.sporedrift_backdrop.Goals as goal
+
+pub returns : goal.returns
+returns c = c.of_colour.ensures ∙ ap (coded value) c.backdrop.ensures

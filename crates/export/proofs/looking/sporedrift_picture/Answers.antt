@@ -1,0 +1,13 @@
+-- What the call tells, as a number.
+use borrow.Author.Rules.{rules}
+use mathlib.Core.Path.{ap, ◌∙◌}
+use Rattle.export_answers.specs.Coded.{coded, value}
+use Rattle.export_answers.proofs.Fitting.{fits_of}
+use Rattle.export.proofs.Fitting.{picture-fits}
+use Rattle.export.proofs.looking.sporedrift_picture.Goals as goal
+
+pub of_number-requires : goal.of_number-requires
+of_number-requires c = fits_of c.picture.ensures.0 (picture-fits _ _)
+
+pub returns : goal.returns
+returns c = record { value = c.of_number.ensures ∙ ap (coded value) c.picture.ensures.0; out_after = c.picture.ensures.1 }

@@ -1,0 +1,13 @@
+use Prim.Native.Nat.{◌+◌, ◌-◌, ◌≤◌}
+use mathlib.Core.Path.{◌≡◌, ap, ◌∙◌}
+use native.Mathlib.Omega.{arith}
+use Rattle.log_line.specs.Split.{lf_at, stride}
+use Rattle.log_line.proofs.Splitting.{lf_turn}
+use borrow.Author.Rules.{rules}
+use Rattle.log_line.proofs.lines.count_lf.Given as goal
+
+abbrev pub invariant-loop-j : goal.invariant-loop-j
+invariant-loop-j l = ((l.j ≤ stride) × (l.n ≤ l.j)) × ((l.n ≡ 0) → lf_at l.chunk l.at ≡ lf_at l.chunk (l.at + l.j))
+
+abbrev pub decreases-loop-j : goal.decreases-loop-j
+decreases-loop-j l = stride - l.j

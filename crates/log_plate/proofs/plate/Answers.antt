@@ -1,0 +1,14 @@
+-- What was read left a valid block, and what is printed behind it is the picture or the refused line.
+use borrow.Author.Rules.{rules}
+use mathlib.Core.Path.{◌∙◌}
+use Rattle.log_plate.proofs.Closing.{closed_printed}
+use Rattle.log_plate.proofs.plate.Goals as goal
+
+pub print-whole-requires : goal.print-whole-requires
+print-whole-requires c = record { valid = c.read_log-f.ensures.0; out_len = c.read_log-f.auto.1.1.1.1.1.0 ∙ c.requires.out_len.0 }
+
+pub returns : goal.returns
+returns c =
+    let k = c.read_log-f.ensures.1 in
+    let f = c.read_log-f.result in
+    (k.0, (k.1.0, closed_printed f.state f.ended k.0 f.reading _ c.print-whole.result _ _ _ k.1.1 c.print-whole.ensures))

@@ -1,0 +1,21 @@
+use borrow.Author.Rules.{rules}
+use mathlib.Core.Path.{◌≡◌, refl, sym, ap, ◌∙◌}
+use Prim.Native.Nat.{◌+◌, ◌*◌, ◌-◌, ◌≤◌}
+use borrow.Author.Tests.{not-true, not-false}
+use native.Mathlib.Omega.{arith}
+use lib.ListN.{length}
+use Rattle.log_chunks.specs.Steps.{begun, desk}
+use Rattle.log_reading.specs.declared.Reading.{Reading}
+use Rattle.log_reader.specs.Fed.{LentSizes, chunk_bytes, out_bytes, most_bytes}
+use Rattle.log_reader.specs.Read.{point}
+use Rattle.log_reader.proofs.Outcomes.{SoFar, so_far_none, so-far-on, so-far-ends, so_far-stops, boot-fit, sized-kept}
+use Rattle.log_reader.proofs.read_log.Given as goal
+
+abbrev pub invariant-loop-turns : goal.invariant-loop-turns
+invariant-loop-turns l =
+    SoFar l.quiet (point begun (desk l.initial.block l.initial.line l.initial.bytes l.initial.command) l.initial.tally) l.turns (point l.turns.reading (desk l.line l.bytes l.command l.out) l.block)
+    × ((l.turns.reading.number + turns * chunk_bytes ≤ 4611686018427387905)
+    × ((l.turns.got + turns * chunk_bytes ≤ most_bytes) × (LentSizes (desk l.line l.bytes l.command l.out) × ((length l.chunk ≡ out_bytes) × (length l.read ≡ chunk_bytes)))))
+
+abbrev pub decreases-loop-turns : goal.decreases-loop-turns
+decreases-loop-turns l = turns
