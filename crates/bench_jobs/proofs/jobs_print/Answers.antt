@@ -6,7 +6,7 @@ use Rattle.bench_jobs.proofs.jobs_print.Goals as goal
 
 pub read_log-n-requires : goal.read_log-n-requires
 read_log-n-requires c =
-    let s = c.are_sized.ensures (not-false _ c.if-not-are_sized.false) in
+    let s = c.are_sized.ensures (c.if-not-are_sized.false) in
     (record { block_long = s.1.0; line_long = s.1.1.0; bytes_long = s.1.1.1.0; command_long = s.1.1.1.1 }, s.0)
 
 pub finish-requires : goal.finish-requires

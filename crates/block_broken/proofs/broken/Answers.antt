@@ -15,12 +15,12 @@ pub returns-then-not-v6 : goal.returns-then-not-v6
 returns-then-not-v6 c =
     let b = c.args.block.now in
     let z = sym c.broken_front-no.ensures ∙ c.if-no-ne0.false in
-    let f = sym c.v6.ensures ∙ not-true _ c.if-not-v6.true in
+    let f = sym c.v6.ensures ∙ c.if-not-v6.true in
     c.numbered.ensures ∙ ap (number_of 26) c.at_v6.ensures ∙ told-6 b z f
 
 pub returns : goal.returns
 returns c =
     let b = c.args.block.now in
     let z = sym c.broken_front-no.ensures ∙ c.if-no-ne0.false in
-    let h = sym c.v6.ensures ∙ not-false _ c.if-not-v6.false in
+    let h = sym c.v6.ensures ∙ c.if-not-v6.false in
     told-all b z h

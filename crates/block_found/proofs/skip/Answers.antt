@@ -16,14 +16,14 @@ pub returns-then-not-all_zero : goal.returns-then-not-all_zero
 returns-then-not-all_zero c =
     let a = c.loop-at in
     let b = c.args in
-    let z = is_in a.at (a.at + b.size - a.at) b.s.now a.invariant.0 (sym c.all_zero.ensures ∙ not-true _ c.if-not-all_zero.true) in
+    let z = is_in a.at (a.at + b.size - a.at) b.s.now a.invariant.0 (sym c.all_zero.ensures ∙ c.if-not-all_zero.true) in
     (a.invariant.0, omega arith)
 
 pub loop-at-preserved : goal.loop-at-preserved
 loop-at-preserved c =
     let a = c.loop-at in
     let b = c.args in
-    let z = not_in a.at (a.at + b.size - a.at) b.s.now a.invariant.0 (omega arith) (sym c.all_zero.ensures ∙ not-false _ c.if-not-all_zero.false) in
+    let z = not_in a.at (a.at + b.size - a.at) b.s.now a.invariant.0 (omega arith) (sym c.all_zero.ensures ∙ c.if-not-all_zero.false) in
     (omega arith, (omega arith, a.invariant.1.1))
 
 pub returns : goal.returns

@@ -21,9 +21,9 @@ returns-then-block-ne0-3 c = rw (eq-eqb _ _ c.if-block-ne0.false, eq-eqb _ _ c.i
 
 pub returns-then-not-all_zero : goal.returns-then-not-all_zero
 unfolding v3_at load
-returns-then-not-all_zero c = rw (eq-eqb _ _ c.if-block-ne0.false, eq-eqb _ _ c.if-block-ne0-2.false, eq-eqb _ _ c.if-block-ne0-3.false, sym (zero-value _) ∙ sym c.all_zero.ensures ∙ not-true _ c.if-not-all_zero.true)
+returns-then-not-all_zero c = rw (eq-eqb _ _ c.if-block-ne0.false, eq-eqb _ _ c.if-block-ne0-2.false, eq-eqb _ _ c.if-block-ne0-3.false, sym (zero-value _) ∙ sym c.all_zero.ensures ∙ c.if-not-all_zero.true)
 
 pub returns : goal.returns
 unfolding v3_at load
-returns c = rw (eq-eqb _ _ c.if-block-ne0.false, eq-eqb _ _ c.if-block-ne0-2.false, eq-eqb _ _ c.if-block-ne0-3.false, sym (zero-value _) ∙ sym c.all_zero.ensures ∙ not-false _ c.if-not-all_zero.false)
+returns c = rw (eq-eqb _ _ c.if-block-ne0.false, eq-eqb _ _ c.if-block-ne0-2.false, eq-eqb _ _ c.if-block-ne0-3.false, sym (zero-value _) ∙ sym c.all_zero.ensures ∙ c.if-not-all_zero.false)
     c.all_zero-2.ensures

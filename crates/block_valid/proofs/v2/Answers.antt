@@ -23,9 +23,9 @@ returns-then-block-gt1-4 c = rw (le-leb _ _ c.if-block-gt1.false, le-leb _ _ c.i
 
 pub returns-then-not-lines_agree : goal.returns-then-not-lines_agree
 unfolding v2
-returns-then-not-lines_agree c = rw (le-leb _ _ c.if-block-gt1.false, le-leb _ _ c.if-block-gt1-2.false, le-leb _ _ c.if-block-gt1-3.false, le-leb _ _ c.if-block-gt1-4.false, sym c.lines_agree.ensures ∙ not-true _ c.if-not-lines_agree.true)
+returns-then-not-lines_agree c = rw (le-leb _ _ c.if-block-gt1.false, le-leb _ _ c.if-block-gt1-2.false, le-leb _ _ c.if-block-gt1-3.false, le-leb _ _ c.if-block-gt1-4.false, sym c.lines_agree.ensures ∙ c.if-not-lines_agree.true)
 
 pub returns : goal.returns
 unfolding v2
-returns c = rw (le-leb _ _ c.if-block-gt1.false, le-leb _ _ c.if-block-gt1-2.false, le-leb _ _ c.if-block-gt1-3.false, le-leb _ _ c.if-block-gt1-4.false, sym c.lines_agree.ensures ∙ not-false _ c.if-not-lines_agree.false)
+returns c = rw (le-leb _ _ c.if-block-gt1.false, le-leb _ _ c.if-block-gt1-2.false, le-leb _ _ c.if-block-gt1-3.false, le-leb _ _ c.if-block-gt1-4.false, sym c.lines_agree.ensures ∙ c.if-not-lines_agree.false)
     c.all_zero.ensures

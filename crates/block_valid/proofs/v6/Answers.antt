@@ -7,12 +7,12 @@ use Rattle.block_valid.proofs.v6.Goals as goal
 
 pub returns-then-not-mask_allows : goal.returns-then-not-mask_allows
 unfolding v6
-returns-then-not-mask_allows c = rw (sym c.mask_allows.ensures ∙ not-true _ c.if-not-mask_allows.true)
+returns-then-not-mask_allows c = rw (sym c.mask_allows.ensures ∙ c.if-not-mask_allows.true)
 
 pub returns-then-block-ne0 : goal.returns-then-block-ne0
 unfolding v6
-returns-then-block-ne0 c = rw (sym c.mask_allows.ensures ∙ not-false _ c.if-not-mask_allows.false, ne_eqb _ _ c.if-block-ne0.true)
+returns-then-block-ne0 c = rw (sym c.mask_allows.ensures ∙ c.if-not-mask_allows.false, ne_eqb _ _ c.if-block-ne0.true)
 
 pub returns : goal.returns
 unfolding v6
-returns c = rw (sym c.mask_allows.ensures ∙ not-false _ c.if-not-mask_allows.false, eq-eqb _ _ c.if-block-ne0.false) c.all_zero.ensures
+returns c = rw (sym c.mask_allows.ensures ∙ c.if-not-mask_allows.false, eq-eqb _ _ c.if-block-ne0.false) c.all_zero.ensures

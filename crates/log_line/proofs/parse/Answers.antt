@@ -45,7 +45,7 @@ decode-requires c =
     let k = c.kind_of-kind in
     let y : Body s = kind-body s k.result k.ensures c.if-kind-eq0.false in
     let n : length (spelled (drop 2 s)) ≤ capture_bytes = kind_fits s k.result k.ensures c.if-kind-eq0.false in
-    (rw (past-kind s) y.rest, simp (length-take, length-drop) (omega arith))
+    record { text_value = rw (past-kind s) y.rest; text_len_bound = simp (length-take, length-drop) (omega arith) }
 
 pub returns-then-kind-eq2 : goal.returns-then-kind-eq2
 returns-then-kind-eq2 c =

@@ -9,7 +9,7 @@ use Rattle.picture.proofs.Whole.{rows_turn}
 use Rattle.picture.proofs.picture.Given as goal
 
 abbrev pub invariant-loop-y : goal.invariant-loop-y
-invariant-loop-y l = (l.y ≤ 224) × (length l.out ≡ length l.initial.out) × Painted l.out l.initial.out 0 (l.y * 256) (λ k. pixel_on (record { l.tiles = l.tiles; l.map = l.map; l.attributes = l.attributes; l.screen = l.screen; l.border = l.border; l.game = l.game }) (k / 256) (k % 256))
+invariant-loop-y l = (l.y ≤ 224) × (length l.out ≡ length l.initial.out) × Painted l.out l.initial.out 0 (l.y * 256) (λ k. pixel_on (record { tiles = l.tiles; map = l.map; attributes = l.attributes; screen = l.screen; border = l.border; game = l.game }) (k / 256) (k % 256))
 
 abbrev pub decreases-loop-y : goal.decreases-loop-y
 decreases-loop-y l = 224 - l.y

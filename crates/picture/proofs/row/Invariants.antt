@@ -9,7 +9,7 @@ use Rattle.picture.proofs.Whole.{row_turn}
 use Rattle.picture.proofs.row.Given as goal
 
 abbrev pub invariant-loop-c : goal.invariant-loop-c
-invariant-loop-c l = (l.c ≤ 32) × (length l.out ≡ length l.initial.out) × Painted l.out l.initial.out l.at (l.c * 8) (pixel_on (record { l.tiles = l.tiles; l.map = l.map; l.attributes = l.attributes; l.screen = l.screen; l.border = l.border; l.game = l.game }) l.y)
+invariant-loop-c l = (l.c ≤ 32) × (length l.out ≡ length l.initial.out) × Painted l.out l.initial.out l.at (l.c * 8) (pixel_on (record { tiles = l.tiles; map = l.map; attributes = l.attributes; screen = l.screen; border = l.border; game = l.game }) l.y)
 
 abbrev pub decreases-loop-c : goal.decreases-loop-c
 decreases-loop-c l = 32 - l.c

@@ -7,7 +7,7 @@ use Rattle.receiver_polling.proofs.Waits.{passed-one}
 use Rattle.receiver_polling.proofs.by_one.Given as goal
 
 abbrev pub invariant-loop-i : goal.invariant-loop-i
-invariant-loop-i l = Passed l.mask l.from l.rx l.initial.here l.writes (record { l.rx = l.rx; l.initial.here = l.here; at = l.i })
+invariant-loop-i l = Passed l.mask l.from l.rx l.initial.here l.writes (record { rx = l.rx; lines = l.here; at = l.i })
 
 abbrev pub decreases-loop-i : goal.decreases-loop-i
 decreases-loop-i l = length l.writes - l.i

@@ -55,10 +55,10 @@ shape_of-border_palettes-then-not-roomy c = refl
 
 pub returns-then-not-roomy : goal.returns-then-not-roomy
 unfolding number_told
-returns-then-not-roomy c = as-result_value-border_palettes_after (no_room c.args.block.now (lent c.args.fields.now c.args.palettes.now c.args.attribute-map.now c.args.system-palettes.now c.args.attribute-files.now c.args.packet.now c.args.packets.now c.args.capture.now c.args.frozen-capture.now c.args.preset.now c.args.border-tiles.now c.args.border-map.now c.args.border-palettes.now) (accepts c.args.block.now c.refusal-no.result.0 c.refusal-no.ensures c.if-no-ne0.false) (sym c.roomy.ensures ∙ not-true _ c.if-not-roomy.true))
+returns-then-not-roomy c = as-result_value-border_palettes_after (no_room c.args.block.now (lent c.args.fields.now c.args.palettes.now c.args.attribute-map.now c.args.system-palettes.now c.args.attribute-files.now c.args.packet.now c.args.packets.now c.args.capture.now c.args.frozen-capture.now c.args.preset.now c.args.border-tiles.now c.args.border-map.now c.args.border-palettes.now) (accepts c.args.block.now c.refusal-no.result.0 c.refusal-no.ensures c.if-no-ne0.false) (sym c.roomy.ensures ∙ c.if-not-roomy.true))
 
 pub lay-requires : goal.lay-requires
-lay-requires c = let v = accepts c.args.block.now c.refusal-no.result.0 c.refusal-no.ensures c.if-no-ne0.false in (v.long, ((stored_in c.args.block.now v).few, sym c.roomy.ensures ∙ not-false _ c.if-not-roomy.false))
+lay-requires c = let v = accepts c.args.block.now c.refusal-no.result.0 c.refusal-no.ensures c.if-no-ne0.false in (v.long, ((stored_in c.args.block.now v).few, sym c.roomy.ensures ∙ c.if-not-roomy.false))
 
 pub present_in-requires : goal.present_in-requires
 present_in-requires c = (accepts c.args.block.now c.refusal-no.result.0 c.refusal-no.ensures c.if-no-ne0.false).long
@@ -104,4 +104,4 @@ shape_of-border_palettes c = c.lay.auto.1.1.1.1.1.1.1.1.1.1.1.1.1.0
 
 pub returns : goal.returns
 unfolding number_told
-returns c = as-result_value-border_palettes_after (goes-out c.args.block.now (lent c.args.fields.now c.args.palettes.now c.args.attribute-map.now c.args.system-palettes.now c.args.attribute-files.now c.args.packet.now c.args.packets.now c.args.capture.now c.args.frozen-capture.now c.args.preset.now c.args.border-tiles.now c.args.border-map.now c.args.border-palettes.now) (accepts c.args.block.now c.refusal-no.result.0 c.refusal-no.ensures c.if-no-ne0.false) (sym c.roomy.ensures ∙ not-false _ c.if-not-roomy.false) _ _ c.present_in.ensures c.lay.ensures)
+returns c = as-result_value-border_palettes_after (goes-out c.args.block.now (lent c.args.fields.now c.args.palettes.now c.args.attribute-map.now c.args.system-palettes.now c.args.attribute-files.now c.args.packet.now c.args.packets.now c.args.capture.now c.args.frozen-capture.now c.args.preset.now c.args.border-tiles.now c.args.border-map.now c.args.border-palettes.now) (accepts c.args.block.now c.refusal-no.result.0 c.refusal-no.ensures c.if-no-ne0.false) (sym c.roomy.ensures ∙ c.if-not-roomy.false) _ _ c.present_in.ensures c.lay.ensures)

@@ -7,8 +7,8 @@ use Rattle.state_fits.proofs.captures_fit.Goals as goal
 
 pub returns-then-not-has : goal.returns-then-not-has
 unfolding captures_fit
-returns-then-not-has c = let e = sym c.has.ensures ∙ not-true _ c.if-not-has.true in rw e
+returns-then-not-has c = let e = sym c.has.ensures ∙ c.if-not-has.true in rw e
 
 pub returns : goal.returns
 unfolding captures_fit
-returns c = let e = sym c.has.ensures ∙ not-false _ c.if-not-has.false in rw e c.may_have.ensures
+returns c = let e = sym c.has.ensures ∙ c.if-not-has.false in rw e c.may_have.ensures

@@ -17,10 +17,10 @@ pub returns-then-not-mask_allows : goal.returns-then-not-mask_allows
 unfolding front_number
 returns-then-not-mask_allows c = let f = c.args.front.now in
     let z = sym c.broken_front-no.ensures ∙ c.if-no-ne0.false in
-    mask-told _ (sym c.mask_allows.ensures ∙ not-true _ c.if-not-mask_allows.true) ∙ number_past 1 (front_rules f) (asks_mask f ∷ []) z
+    mask-told _ (sym c.mask_allows.ensures ∙ c.if-not-mask_allows.true) ∙ number_past 1 (front_rules f) (asks_mask f ∷ []) z
 
 pub returns : goal.returns
 unfolding front_number
 returns c = let f = c.args.front.now in
     let z = sym c.broken_front-no.ensures ∙ c.if-no-ne0.false in
-    mask-clear _ (sym c.mask_allows.ensures ∙ not-false _ c.if-not-mask_allows.false) ∙ number_past 1 (front_rules f) (asks_mask f ∷ []) z
+    mask-clear _ (sym c.mask_allows.ensures ∙ c.if-not-mask_allows.false) ∙ number_past 1 (front_rules f) (asks_mask f ∷ []) z

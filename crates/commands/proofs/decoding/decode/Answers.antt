@@ -75,4 +75,4 @@ pub returns-in_default : goal.returns-in_default
 unfolding decode code_of told told_plain
 returns-in_default c =
     let d = c.args.d.now in
-    sym (find_none (get_or d 0 0 / 8) (table d) (Unit {0}) c.in_default.rest)
+    sym (find_none (get_or d 0 0 / 8) (table d) (Unit {0}) c.in_default.in_default-own.rest)

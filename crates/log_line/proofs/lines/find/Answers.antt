@@ -1,7 +1,7 @@
 -- Each byte that goes by is no LF.
 use mathlib.Core.Path.{refl, sym, ◌∙◌}
 use native.Mathlib.Omega.{arith}
-use borrow.Author.Tests.{eq-eqb, ne-eqb}
+use borrow.Author.Tests.{eq-eqb, ne_eqb}
 use Rattle.log_line.proofs.Splitting.{lf_past, lf_here, lf_end}
 use Rattle.log_line.proofs.lines.find.Goals as goal
 
@@ -9,7 +9,7 @@ pub loop-i-init : goal.loop-i-init
 loop-i-init c = (omega arith, (omega arith, refl))
 
 pub loop-i-preserved : goal.loop-i-preserved
-loop-i-preserved c = (omega arith, (omega arith, c.loop-i.invariant.1.1 ∙ lf_past c.args.chunk.now c.loop-i.i c.loop-i-test.true (ne-eqb _ 10 c.if-chunk-i-eq10.false)))
+loop-i-preserved c = (omega arith, (omega arith, c.loop-i.invariant.1.1 ∙ lf_past c.args.chunk.now c.loop-i.i c.loop-i-test.true (ne_eqb _ 10 c.if-chunk-i-eq10.false)))
 
 pub returns-then-chunk-i-eq10-clause-value : goal.returns-then-chunk-i-eq10-clause-value
 returns-then-chunk-i-eq10-clause-value c =

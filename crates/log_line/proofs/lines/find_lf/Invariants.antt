@@ -3,7 +3,6 @@ use mathlib.Core.Path.{◌≡◌, refl, sym, ◌∙◌}
 use native.Mathlib.Omega.{arith}
 use lib.ListN.{length}
 use Rattle.log_line.specs.Split.{lf_at}
-use Rattle.log_line.proofs.Splitting.{lf_found, lf-from}
 use borrow.Author.Rules.{rules}
 use Rattle.log_line.proofs.lines.find_lf.Given as goal
 
