@@ -28,7 +28,7 @@ from ._picture import HEIGHT, WIDTH, BorderMapEntry, Picture, Rgb555
 from ._state import STATE_SPANS, State
 from ._unit import BLOCK, COMMAND, PACKET, PACKET_WRITES, PAGE, SCREEN, MaskMode, Played, Transfer, Unit, encode, page_screen, verdict
 
-__version__ = "0.5.0"
+__version__ = "0.4.0"
 
 __all__ = [
     "BLOCK",

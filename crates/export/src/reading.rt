@@ -3,8 +3,8 @@ ghost use Rattle.std.specs.Prelude.{◌≡◌};
 ghost use Rattle.log_line.specs.Calls.{line_answer, line_bytes};
 ghost use Rattle.export_answers.specs.Coded.{coded, value, content};
 
-// 0.5.0: 65,536 times the first number, 256 times the second, and the third. tools/version holds it to the file VERSION.
-const VERSION: u32 = 1280;
+// 0.4.0: 65,536 times the first number, 256 times the second, and the third. tools/version holds it to the file VERSION.
+const VERSION: u32 = 1024;
 
 #[unsafe(no_mangle)]
 pub extern "C" fn sporedrift_parse_line(text: &[u8], bytes: &mut [u8]) -> u32
@@ -16,7 +16,7 @@ pub extern "C" fn sporedrift_parse_line(text: &[u8], bytes: &mut [u8]) -> u32
 
 #[unsafe(no_mangle)]
 pub extern "C" fn sporedrift_version() -> u32
-    ensures { result ≡ value 1280 }
+    ensures { result ≡ value 1024 }
 {
     export_answers::value(VERSION)
 }

@@ -10,34 +10,34 @@ use Rattle.layout.proofs.Saved.{long-part}
 use Rattle.block_fixed.proofs.Carried.{copied, frozen-put, frozen-long}
 use borrow.Author.Rules.{rules}
 use Rattle.block_fixed.proofs.freeze.Goals as goal
-use Rattle.block_fixed.proofs.freeze.Goals.{After-put}
-
--- the local holds the live capture
-shot : (p : After-put) → p.put.new.dst ≡ part live_at capture_bytes p.args.block.now
-shot p =
-    let start = p in
-    let n = long-part start.args.block.now start.requires.long live_at capture_bytes (lit≤ tt) in
-    copied capture_bytes (part live_at capture_bytes start.args.block.now) _ _ n (length-replicate {A = ℕ} capture_bytes 0) p.put.ensures
 
 pub bounds-block-12 : goal.bounds-block-12
 bounds-block-12 c =
-    let start = c in
-    let e : length (set start.args.block.now mask_at 1) ≡ block_bytes = length-set start.args.block.now mask_at 1 ∙ start.requires.long in
+    let e : length (set c.args.block.now mask_at 1) ≡ block_bytes = length-set c.args.block.now mask_at 1 ∙ c.requires.long in
     omega arith
 
 pub put-requires-2 : goal.put-requires-2
 put-requires-2 c =
-    let start = c in
-    let e : length (set (set start.args.block.now mask_at 1) frozen_on_at 1) ≡ block_bytes = length-set (set start.args.block.now mask_at 1) frozen_on_at 1 ∙ length-set start.args.block.now mask_at 1 ∙ start.requires.long in
-    let l : length c.put.new.dst ≡ capture_bytes = ap length (shot c) ∙ long-part start.args.block.now start.requires.long live_at capture_bytes (lit≤ tt) in
+    let n = long-part c.args.block.now c.requires.long live_at capture_bytes (lit≤ tt) in
+    -- the local holds the live capture
+    let shot : c.put.new.dst ≡ part live_at capture_bytes c.args.block.now =
+    copied capture_bytes (part live_at capture_bytes c.args.block.now) _ _ n (length-replicate {A = ℕ} capture_bytes 0) c.put.ensures in
+    let e : length (set (set c.args.block.now mask_at 1) frozen_on_at 1) ≡ block_bytes = length-set (set c.args.block.now mask_at 1) frozen_on_at 1 ∙ length-set c.args.block.now mask_at 1 ∙ c.requires.long in
+    let l : length c.put.new.dst ≡ capture_bytes = ap length shot ∙ n in
     omega arith
 
 pub shape_of-block : goal.shape_of-block
 shape_of-block c =
-    let p = c in
-    frozen-long _ p.requires _ _ (shot p) c.put-2.ensures
+    let n = long-part c.args.block.now c.requires.long live_at capture_bytes (lit≤ tt) in
+    -- the local holds the live capture
+    let shot : c.put.new.dst ≡ part live_at capture_bytes c.args.block.now =
+    copied capture_bytes (part live_at capture_bytes c.args.block.now) _ _ n (length-replicate {A = ℕ} capture_bytes 0) c.put.ensures in
+    frozen-long _ c.requires _ _ shot c.put-2.ensures
 
 pub returns : goal.returns
 returns c =
-    let p = c in
-    frozen-put _ p.requires _ _ (shot p) c.put-2.ensures
+    let n = long-part c.args.block.now c.requires.long live_at capture_bytes (lit≤ tt) in
+    -- the local holds the live capture
+    let shot : c.put.new.dst ≡ part live_at capture_bytes c.args.block.now =
+    copied capture_bytes (part live_at capture_bytes c.args.block.now) _ _ n (length-replicate {A = ℕ} capture_bytes 0) c.put.ensures in
+    frozen-put _ c.requires _ _ shot c.put-2.ensures

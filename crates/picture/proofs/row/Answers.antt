@@ -13,7 +13,7 @@ pub loop-c-init : goal.loop-c-init
 loop-c-init c = (omega arith, refl, painted_none)
 
 pub run-requires : goal.run-requires
-run-requires c = (c.requires.lent, (c.requires.tables, omega arith))
+run-requires c = record { lent = c.requires.lent; tables = c.requires.tables; at_in_bounds = omega arith }
 
 pub loop-c-preserved : goal.loop-c-preserved
 loop-c-preserved c =

@@ -12,41 +12,7 @@ use Rattle.receiver_run.specs.declared.Lines.{Lines}
 use Rattle.receiver_run.proofs.Turns.{ready-lined, same-port, same_count, goes_on, ends_with, at_end}
 use Rattle.receiver_polling.specs.Passing.{lines_after}
 use Rattle.receiver_fast.proofs.run_fast.Goals as goal
-use Rattle.receiver_fast.proofs.run_fast.Goals.{After-after-here}
 
--- ---- a turn that is a write, when its lines are noted
-module _ (c : After-after-here) where
-  abbrev met : Port
-  met = let at = c.loop-i in port_of at.rx at.here at.store
-
-  abbrev value : ℕ
-  value = get_or c.args.writes.now c.loop-i.i 0
-
-  same : port_of c.write-w.result.next c.after-here.result c.file-n.new.store.0 ≡ lined met value
-  unfolding lines_after
-  same =
-      let at = c.loop-i in
-      let w = c.write-w in
-      let t = c.file-n in
-      let l = c.after-here in
-      same-port w.result at.rx at.here.p15 at.here.both value t.result l.result.p15 l.result.both at.store _
-      w.ensures (ap (λ (x : Lines). x.p15) l.ensures) (ap (λ (x : Lines). x.both) l.ensures) t.ensures.1 t.ensures.0
-
-  count : c.file-n.result ≡ packets_of (step_at met value).done
-  unfolding lines_after
-  count =
-      let at = c.loop-i in
-      let w = c.write-w in
-      let t = c.file-n in
-      let l = c.after-here in
-      same_count w.result at.rx at.here.p15 at.here.both value t.result l.result.p15 l.result.both at.store _
-      w.ensures (ap (λ (x : Lines). x.p15) l.ensures) (ap (λ (x : Lines). x.both) l.ensures) t.ensures.1 t.ensures.0
-
-  stepped : c.after-here.result.index ≡ indexed c.loop-i.here.index c.args.mask c.loop-i.here.p15 value
-  unfolding lines_after
-  stepped = ap (λ (x : Lines). x.index) c.after-here.ensures
-
--- ---- the needs
 pub loop-i-init : goal.loop-i-init
 loop-i-init c = ((omega arith, omega arith), (c.requires, refl))
 
@@ -83,41 +49,72 @@ after-here-requires c = c.loop-i.invariant.1.0.within
 pub overflow_add-i : goal.overflow_add-i
 overflow_add-i c = omega (arith, c.loop-i-test.true, c.loop-i.invariant.0.1)
 
+-- A turn that is a write: u is the port before it, v the write; same says what port it leaves, count how many packets it completes.
 pub shape_of-store-then-n-ne0 : goal.shape_of-store-then-n-ne0
+unfolding lines_after
 shape_of-store-then-n-ne0 c =
     let at = c.loop-i in
     let a = c.args in
-    ap (λ (q : Port). length q.store) (same c)
-    ∙ (ready-lined (met c) at.here.index a.mask (value c) at.invariant.1.0).long
+    let w = c.write-w in
+    let t = c.file-n in
+    let l = c.after-here in
+    let u : Port = port_of at.rx at.here at.store in
+    let v : ℕ = get_or a.writes.now at.i 0 in
+    let same : port_of w.result.next l.result t.new.store ≡ lined u v =
+    same-port w.result at.rx at.here.p15 at.here.both v t.result l.result.p15 l.result.both at.store _
+    w.ensures (ap (λ (x : Lines). x.p15) l.ensures) (ap (λ (x : Lines). x.both) l.ensures) t.ensures.1 t.ensures.0 in
+    ap (λ (q : Port). length q.store) same
+    ∙ (ready-lined u at.here.index a.mask v at.invariant.1.0).long
     ∙ sym c.requires.long
 
 pub returns-then-n-ne0 : goal.returns-then-n-ne0
+unfolding lines_after
 returns-then-n-ne0 c =
     let at = c.loop-i in
     let a = c.args in
-    let u = met c in
-    let v = value c in
+    let w = c.write-w in
     let t = c.file-n in
-    ap (λ (q : Port). record { port = q; index = c.after-here.result.index; at = at.i + 1; packets = t.result }) (same c)
-    ∙ ap (λ (k : ℕ). record { port = lined u v; index = k; at = at.i + 1; packets = t.result }) (stepped c)
+    let l = c.after-here in
+    let u : Port = port_of at.rx at.here at.store in
+    let v : ℕ = get_or a.writes.now at.i 0 in
+    let same : port_of w.result.next l.result t.new.store ≡ lined u v =
+    same-port w.result at.rx at.here.p15 at.here.both v t.result l.result.p15 l.result.both at.store _
+    w.ensures (ap (λ (x : Lines). x.p15) l.ensures) (ap (λ (x : Lines). x.both) l.ensures) t.ensures.1 t.ensures.0 in
+    let count : t.result ≡ packets_of (step_at u v).done =
+    same_count w.result at.rx at.here.p15 at.here.both v t.result l.result.p15 l.result.both at.store _
+    w.ensures (ap (λ (x : Lines). x.p15) l.ensures) (ap (λ (x : Lines). x.both) l.ensures) t.ensures.1 t.ensures.0 in
+    let stepped : l.result.index ≡ indexed at.here.index a.mask at.here.p15 v = ap (λ (x : Lines). x.index) l.ensures in
+    ap (λ (q : Port). record { port = q; index = l.result.index; at = at.i + 1; packets = t.result }) same
+    ∙ ap (λ (k : ℕ). record { port = lined u v; index = k; at = at.i + 1; packets = t.result }) stepped
     ∙ ends_with a.mask at.i at.here.index u a.writes.now _ c.loop-i-test.true at.invariant.1.1 t.result
-    (sym (count c)) c.if-n-ne0.true
+    (sym count) c.if-n-ne0.true
 
 pub loop-i-smaller : goal.loop-i-smaller
 loop-i-smaller c = omega (arith, c.loop-i-test.true)
 
 pub loop-i-preserved : goal.loop-i-preserved
+unfolding lines_after
 loop-i-preserved c =
     let at = c.loop-i in
     let a = c.args in
-    let u = met c in
-    let v = value c in
+    let w = c.write-w in
+    let t = c.file-n in
+    let l = c.after-here in
+    let u : Port = port_of at.rx at.here at.store in
+    let v : ℕ = get_or a.writes.now at.i 0 in
+    let same : port_of w.result.next l.result t.new.store ≡ lined u v =
+    same-port w.result at.rx at.here.p15 at.here.both v t.result l.result.p15 l.result.both at.store _
+    w.ensures (ap (λ (x : Lines). x.p15) l.ensures) (ap (λ (x : Lines). x.both) l.ensures) t.ensures.1 t.ensures.0 in
+    let count : t.result ≡ packets_of (step_at u v).done =
+    same_count w.result at.rx at.here.p15 at.here.both v t.result l.result.p15 l.result.both at.store _
+    w.ensures (ap (λ (x : Lines). x.p15) l.ensures) (ap (λ (x : Lines). x.both) l.ensures) t.ensures.1 t.ensures.0 in
+    let stepped : l.result.index ≡ indexed at.here.index a.mask at.here.p15 v = ap (λ (x : Lines). x.index) l.ensures in
     let h = c.loop-i-test.true in (
       (omega (arith, h), at.invariant.0.1),
       (
-        rw (same c, stepped c) (ready-lined u at.here.index a.mask v at.invariant.1.0),
-        rw (same c, stepped c)
-            (goes_on a.mask at.i at.here.index u a.writes.now _ h at.invariant.1.1 (sym (count c) ∙ c.if-n-ne0.false)),
+        rw (same, stepped) (ready-lined u at.here.index a.mask v at.invariant.1.0),
+        rw (same, stepped)
+            (goes_on a.mask at.i at.here.index u a.writes.now _ h at.invariant.1.1 (sym count ∙ c.if-n-ne0.false)),
       ),
     )
 

@@ -31,7 +31,7 @@ module _ (c : After-struct_known-1) where
       let e : c.either-r.result.at ≡ (runs 3 0 x met left).at = ap (λ (q : Ended). q.at) c.either-r.ensures in
       (rw e (at_least 3 x met left (omega arith)), omega (arith, at_most 3 x met left))
 
-  again : let r = c.either-r in Ready (port_of r.result.rx r.result.lines r.new.store.0) r.result.lines.index 3
+  again : let r = c.either-r in Ready (port_of r.result.rx r.result.lines r.new.store) r.result.lines.index 3
   again =
       let at = c.loop-at in
       subst⁻¹ (λ (q : Ended). Ready q.port q.index 3) c.either-r.ensures (ready-runs 3 0 at.lines.index met left at.invariant.1)
