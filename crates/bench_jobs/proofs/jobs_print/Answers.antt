@@ -12,5 +12,5 @@ read_log-n-requires c =
 pub finish-requires : goal.finish-requires
 finish-requires c =
     let r = c.read_log-n in
-    let k = r.auto.1.1.1.1.1.0 in
+    let k = r.auto.text in
     record { valid = (r.ensures.0, omega (arith, r.ensures.1, k)); words_len = (omega (arith, c.if-words-ne256.false), omega (arith, c.if-text-lt-PLATE.false, k)) }

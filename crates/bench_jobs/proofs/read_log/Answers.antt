@@ -11,38 +11,6 @@ use Rattle.log_reading.specs.declared.Reading.{Reading}
 use Rattle.bench_jobs.proofs.Chunks.{Within, begun-fit, part_is, within_on, ends-within, left-falls}
 use Rattle.bench_jobs.proofs.read_log.Goals as goal
 
--- ---- before a fill
-module _ (c : goal.After-fill-arg-in-loop-reading-5-1) where
-  abbrev input : List ℕ
-  input = c.args.input.now
-
-  abbrev text : List ℕ
-  text = c.loop-reading.text
-
-  abbrev at : ℕ
-  at = c.loop-reading.at
-
-  abbrev n : ℕ
-  n = c.loop-reading.n
-
-  abbrev k : ℕ
-  k = c.chunk_size.result
-
-  goes : (out_bytes ≤ length text - n) × (0 < left c.loop-reading.reading (length input) at)
-  goes = c.goes_on.ensures c.loop-reading-test.true
-
-  room : n + out_bytes ≤ length text
-  room = omega (arith, goes.0, c.loop-reading.invariant.0.roomy, c.loop-reading.invariant.1.1.1.1.1.1)
-
-  long : at + k ≤ length input
-  long = omega (arith, c.chunk_size.ensures.0, c.loop-reading.invariant.0.within)
-
-  chunk-long : length (take (at + k - at) (drop at input)) ≡ k
-  chunk-long = part_is input at k long
-
-  out-long : length (take (n + out_bytes - n) (drop n text)) ≡ out_bytes
-  out-long = part_is text n out_bytes room
-
 pub loop-reading-init : goal.loop-reading-init
 loop-reading-init c =
     let start = c in
@@ -88,15 +56,26 @@ slice_bounds-fill-end-in-loop-reading c = omega (arith, (c.goes_on.ensures c.loo
 
 pub fill-f-requires : goal.fill-f-requires
 fill-f-requires c =
+    let inv = c.loop-reading.invariant in
+    let goes = c.goes_on.ensures c.loop-reading-test.true in
+    let room : c.loop-reading.n + out_bytes ≤ length c.loop-reading.text = omega (arith, goes.0, inv.0.roomy, inv.1.1.1.1.1.1) in
+    let long : c.loop-reading.at + c.chunk_size.result ≤ length c.args.input.now = omega (arith, c.chunk_size.ensures.0, inv.0.within) in
+    let chunk_long = part_is c.args.input.now c.loop-reading.at c.chunk_size.result long in
+    let out_long = part_is c.loop-reading.text c.loop-reading.n out_bytes room in
     let i = c.loop-reading.invariant.0 in
     let m = c.chunk_size.ensures.1.0 in
-    (i.fit, ((omega (arith, chunk-long c, m, i.numbered, i.within, c.requires.1), (omega arith, omega (arith, chunk-long c, m))), omega (arith, out-long c)))
+    (i.fit, ((omega (arith, chunk_long, m, i.numbered, i.within, c.requires.1), (omega arith, omega (arith, chunk_long, m))), omega (arith, out_long)))
 
 pub overflow_add-at : goal.overflow_add-at
 overflow_add-at c =
-    let b = c in
+    let inv = c.loop-reading.invariant in
+    let goes = c.goes_on.ensures c.loop-reading-test.true in
+    let room : c.loop-reading.n + out_bytes ≤ length c.loop-reading.text = omega (arith, goes.0, inv.0.roomy, inv.1.1.1.1.1.1) in
+    let long : c.loop-reading.at + c.chunk_size.result ≤ length c.args.input.now = omega (arith, c.chunk_size.ensures.0, inv.0.within) in
+    let chunk_long = part_is c.args.input.now c.loop-reading.at c.chunk_size.result long in
+    let out_long = part_is c.loop-reading.text c.loop-reading.n out_bytes room in
     let a = c.loop-reading in
-    let w = ends-within (length (input b)) _ a.reading (desk a.block a.line a.bytes a.command) a.at a.n _ _ c.fill-f.result _ _ a.invariant.0 c.fill-f.ensures (omega (arith, chunk-long b, long b)) in
+    let w = ends-within (length c.args.input.now) _ a.reading (desk a.block a.line a.bytes a.command) a.at a.n _ _ c.fill-f.result _ _ a.invariant.0 c.fill-f.ensures (omega (arith, chunk_long, long)) in
     omega (arith, w, c.requires.1)
 
 pub kept-n-requires : goal.kept-n-requires
@@ -104,27 +83,42 @@ kept-n-requires c = tt
 
 pub overflow_add-n-in-loop-reading : goal.overflow_add-n-in-loop-reading
 overflow_add-n-in-loop-reading c =
-    let b = c in
-    omega (arith, c.kept-n.ensures, c.fill-f.ensures.fits, out-long b, room b, c.loop-reading.invariant.1.0, c.loop-reading.invariant.1.1.1.1.1.1)
+    let inv = c.loop-reading.invariant in
+    let goes = c.goes_on.ensures c.loop-reading-test.true in
+    let room : c.loop-reading.n + out_bytes ≤ length c.loop-reading.text = omega (arith, goes.0, inv.0.roomy, inv.1.1.1.1.1.1) in
+    let long : c.loop-reading.at + c.chunk_size.result ≤ length c.args.input.now = omega (arith, c.chunk_size.ensures.0, inv.0.within) in
+    let chunk_long = part_is c.args.input.now c.loop-reading.at c.chunk_size.result long in
+    let out_long = part_is c.loop-reading.text c.loop-reading.n out_bytes room in
+    omega (arith, c.kept-n.ensures, c.fill-f.ensures.fits, out_long, room, c.loop-reading.invariant.1.0, c.loop-reading.invariant.1.1.1.1.1.1)
 
 pub loop-reading-smaller : goal.loop-reading-smaller
 loop-reading-smaller c =
-    let b = c in
+    let inv = c.loop-reading.invariant in
+    let goes = c.goes_on.ensures c.loop-reading-test.true in
+    let room : c.loop-reading.n + out_bytes ≤ length c.loop-reading.text = omega (arith, goes.0, inv.0.roomy, inv.1.1.1.1.1.1) in
+    let long : c.loop-reading.at + c.chunk_size.result ≤ length c.args.input.now = omega (arith, c.chunk_size.ensures.0, inv.0.within) in
+    let chunk_long = part_is c.args.input.now c.loop-reading.at c.chunk_size.result long in
+    let out_long = part_is c.loop-reading.text c.loop-reading.n out_bytes room in
     let a = c.loop-reading in
-    left-falls (length (input b)) _ a.reading (desk a.block a.line a.bytes a.command) a.at a.n _ _ c.fill-f.result _ _ a.invariant.0 c.fill-f.ensures (omega (arith, chunk-long b, long b)) (omega (arith, chunk-long b, c.chunk_size.ensures.1.1)) (omega (arith, out-long b)) (goes b).1
+    left-falls (length c.args.input.now) _ a.reading (desk a.block a.line a.bytes a.command) a.at a.n _ _ c.fill-f.result _ _ a.invariant.0 c.fill-f.ensures (omega (arith, chunk_long, long)) (omega (arith, chunk_long, c.chunk_size.ensures.1.1)) (omega (arith, out_long)) goes.1
 
 pub loop-reading-preserved : goal.loop-reading-preserved
 loop-reading-preserved c =
-    let b = c in
+    let inv = c.loop-reading.invariant in
+    let goes = c.goes_on.ensures c.loop-reading-test.true in
+    let room : c.loop-reading.n + out_bytes ≤ length c.loop-reading.text = omega (arith, goes.0, inv.0.roomy, inv.1.1.1.1.1.1) in
+    let long : c.loop-reading.at + c.chunk_size.result ≤ length c.args.input.now = omega (arith, c.chunk_size.ensures.0, inv.0.within) in
+    let chunk_long = part_is c.args.input.now c.loop-reading.at c.chunk_size.result long in
+    let out_long = part_is c.loop-reading.text c.loop-reading.n out_bytes room in
     let a = c.loop-reading in
     let f = c.fill-f in
     let l = a.invariant.1.1 in (
-      within_on (length (input b)) _ a.reading (desk a.block a.line a.bytes a.command) a.at a.n _ _ f.result _ _ a.invariant.0 f.ensures (omega (arith, chunk-long b, long b)) c.kept-n.result c.kept-n.ensures (omega (arith, out-long b, room b, l.1.1.1.1)),
-      (a.invariant.1.0, (f.auto.1.0 ∙ l.0, (f.auto.1.1.0 ∙ l.1.0, (f.auto.1.1.1.0 ∙ l.1.1.0, (f.auto.1.1.1.1.0 ∙ l.1.1.1.0, search rules))))),
+      within_on (length c.args.input.now) _ a.reading (desk a.block a.line a.bytes a.command) a.at a.n _ _ f.result _ _ a.invariant.0 f.ensures (omega (arith, chunk_long, long)) c.kept-n.result c.kept-n.ensures (omega (arith, out_long, room, l.1.1.1.1)),
+      (a.invariant.1.0, (f.auto.block ∙ l.0, (f.auto.line ∙ l.1.0, (f.auto.bytes ∙ l.1.1.0, (f.auto.command ∙ l.1.1.1.0, search rules))))),
     )
 
 pub shape_of-block : goal.shape_of-block
-shape_of-block c = c.loop-reading.invariant.1.1.0 ∙ c.post_boot.auto.0
+shape_of-block c = c.loop-reading.invariant.1.1.0 ∙ c.post_boot.auto.block
 
 pub shape_of-line : goal.shape_of-line
 shape_of-line c = c.loop-reading.invariant.1.1.1.0

@@ -11,7 +11,7 @@ picture-requires c =
     let m = d in
     let made = m in
     let start = made in
-    (record { tiles_long = m.tiles.ensures.1; map_long = m.map.ensures.1; attributes_long = d.attributes.ensures.1; screen_long = d.shown.ensures.1 }, (tables-are _ _ _ _ made.tables.ensures, start.requires.in_bounds))
+    record { lent = record { tiles_long = m.tiles.ensures.1; map_long = m.map.ensures.1; attributes_long = d.attributes.ensures.1; screen_long = d.shown.ensures.1 }; tables = tables-are _ _ _ _ made.tables.ensures; in_bounds = start.requires.in_bounds }
 
 pub returns : goal.returns
 unfolding picture_drawn

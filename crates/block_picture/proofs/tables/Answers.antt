@@ -7,11 +7,5 @@ use Rattle.block_picture.proofs.tables.Goals as goal
 
 pub returns : goal.returns
 returns c =
-    let t = c in
-    let b = t in
-    let m = b in
-    let f = m in
-    let s = f in
-    let p = s in
-    tables_of (parts_of (load c.args.block.now)) p.palettes.ensures.0 s.preset.ensures.0 f.in_force.ensures m.mode.ensures b.borders.ensures.0
-    t.tables.ensures.0 t.tables.ensures.1.0 t.tables.ensures.1.1
+    tables_of (parts_of (load c.args.block.now)) c.palettes.ensures.0 c.preset.ensures.0 c.in_force.ensures c.mode.ensures c.borders.ensures.0
+    c.tables.ensures.spreads_after c.tables.ensures.border_after c.tables.ensures.game_after

@@ -12,7 +12,7 @@ put_half-requires c = simp length-set (omega arith)
 
 pub put_half-requires-2 : goal.put_half-requires-2
 put_half-requires-2 c =
-    let k = simp length-set at c.put_half.auto.0 in
+    let k = simp length-set at c.put_half.auto.bytes in
     omega (arith, k, c.requires)
 
 pub returns : goal.returns

@@ -36,7 +36,7 @@ loop-block-preserved c =
     let s = c.say-g in
     let l = a.invariant.1 in (
       turns start.args.start (desk start.args.block.now start.args.line.now start.args.bytes.now start.args.command.now) start.args.chunk.now start.args.from start.args.out.now a.f (desk a.block a.line a.bytes a.command) a.out a.invariant.0 (ap (goes_on a.f.refused a.f.size a.f.reading a.f.at (length start.args.chunk.now)) (sym a.invariant.1.1.1.1.1) ∙ sym c.goes_on.ensures ∙ c.loop-block-test.true) s.result _ _ s.ensures l.1.1.1.1,
-      (s.auto.1.0 ∙ l.0, (s.auto.1.1.0 ∙ l.1.0, (s.auto.1.1.1.0 ∙ l.1.1.0, (s.auto.1.1.1.1.0 ∙ l.1.1.1.0, s.auto.1.1.1.1.1.1.0 ∙ l.1.1.1.1)))),
+      (s.auto.block ∙ l.0, (s.auto.line ∙ l.1.0, (s.auto.bytes ∙ l.1.1.0, (s.auto.command ∙ l.1.1.1.0, s.auto.out ∙ l.1.1.1.1)))),
     )
 
 pub shape_of-block : goal.shape_of-block

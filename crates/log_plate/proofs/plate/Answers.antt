@@ -5,7 +5,7 @@ use Rattle.log_plate.proofs.Closing.{closed_printed}
 use Rattle.log_plate.proofs.plate.Goals as goal
 
 pub print-whole-requires : goal.print-whole-requires
-print-whole-requires c = record { valid = c.read_log-f.ensures.0; out_len = c.read_log-f.auto.1.1.1.1.1.0 ∙ c.requires.out_len.0 }
+print-whole-requires c = record { valid = c.read_log-f.ensures.0; out_len = c.read_log-f.auto.text ∙ c.requires.out_len.0 }
 
 pub returns : goal.returns
 returns c =

@@ -15,16 +15,16 @@ pub row_line-requires : goal.row_line-requires
 row_line-requires c = record { valid = (c.requires.valid, omega (arith, c.loop-y-test.true)); tables_of = c.requires.tables_of; words_len = (c.loop-y.invariant.1.0, omega (arith, c.loop-y.invariant.1.1)) }
 
 pub slice_bounds-write_out-end : goal.slice_bounds-write_out-end
-slice_bounds-write_out-end c = omega (arith, c.row_line.auto.1.1.1.1.1.1.0, c.loop-y.invariant.1.1)
+slice_bounds-write_out-end c = omega (arith, c.row_line.auto.out, c.loop-y.invariant.1.1)
 
 pub write_out-requires : goal.write_out-requires
 write_out-requires c = tt
 
 pub shape_of-words-then-not-write_out : goal.shape_of-words-then-not-write_out
-shape_of-words-then-not-write_out c = omega (arith, c.row_line.auto.1.1.1.1.1.0, c.loop-y.invariant.1.0, c.requires.words_len.0)
+shape_of-words-then-not-write_out c = omega (arith, c.row_line.auto.words, c.loop-y.invariant.1.0, c.requires.words_len.0)
 
 pub shape_of-out-then-not-write_out : goal.shape_of-out-then-not-write_out
-shape_of-out-then-not-write_out c = omega (arith, c.row_line.auto.1.1.1.1.1.1.0, c.loop-y.invariant.1.1, c.requires.words_len.1)
+shape_of-out-then-not-write_out c = omega (arith, c.row_line.auto.out, c.loop-y.invariant.1.1, c.requires.words_len.1)
 
 pub returns-then-not-write_out : goal.returns-then-not-write_out
 returns-then-not-write_out c =
@@ -44,7 +44,7 @@ loop-y-preserved c =
     let w = c.write_out in (
       rows_next args.block.now args.tally.now a.tally a.y a.invariant.0 c.loop-y-test.true _ a.out _ refl c.row_line.ensures.out_after w.new.tally w.result
           (not-false w.result c.if-not-write_out.false) w.ensures,
-      (c.row_line.auto.1.1.1.1.1.0 ∙ a.invariant.1.0, c.row_line.auto.1.1.1.1.1.1.0 ∙ a.invariant.1.1),
+      (c.row_line.auto.words ∙ a.invariant.1.0, c.row_line.auto.out ∙ a.invariant.1.1),
     )
 
 pub shape_of-words : goal.shape_of-words

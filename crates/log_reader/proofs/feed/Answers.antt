@@ -26,7 +26,7 @@ fill-f-requires c =
     (t.fit, ((omega (arith, t.numbered, t.within, start.requires.number_le_most_lines.0, start.requires.number_le_most_lines.1), (t.within, omega (arith, start.requires.number_le_most_lines.1))), omega (arith, a.invariant.1.1.1.1.1, start.requires.out_len)))
 
 pub slice_bounds-told-end : goal.slice_bounds-told-end
-slice_bounds-told-end c = omega (arith, c.fill-f.ensures.fits, c.fill-f.auto.1.1.1.1.1.1.1.0)
+slice_bounds-told-end c = omega (arith, c.fill-f.ensures.fits, c.fill-f.auto.out)
 
 pub told-state-requires : goal.told-state-requires
 told-state-requires c = tt
@@ -35,19 +35,19 @@ pub is_well-requires : goal.is_well-requires
 is_well-requires c = tt
 
 pub shape_of-block-then-not-is_well : goal.shape_of-block-then-not-is_well
-shape_of-block-then-not-is_well c = c.fill-f.auto.1.0 ∙ c.loop-block.invariant.1.0
+shape_of-block-then-not-is_well c = c.fill-f.auto.block ∙ c.loop-block.invariant.1.0
 
 pub shape_of-line-then-not-is_well : goal.shape_of-line-then-not-is_well
-shape_of-line-then-not-is_well c = c.fill-f.auto.1.1.0 ∙ c.loop-block.invariant.1.1.0
+shape_of-line-then-not-is_well c = c.fill-f.auto.line ∙ c.loop-block.invariant.1.1.0
 
 pub shape_of-bytes-then-not-is_well : goal.shape_of-bytes-then-not-is_well
-shape_of-bytes-then-not-is_well c = c.fill-f.auto.1.1.1.0 ∙ c.loop-block.invariant.1.1.1.0
+shape_of-bytes-then-not-is_well c = c.fill-f.auto.bytes ∙ c.loop-block.invariant.1.1.1.0
 
 pub shape_of-command-then-not-is_well : goal.shape_of-command-then-not-is_well
-shape_of-command-then-not-is_well c = c.fill-f.auto.1.1.1.1.0 ∙ c.loop-block.invariant.1.1.1.1.0
+shape_of-command-then-not-is_well c = c.fill-f.auto.command ∙ c.loop-block.invariant.1.1.1.1.0
 
 pub shape_of-out-then-not-is_well : goal.shape_of-out-then-not-is_well
-shape_of-out-then-not-is_well c = c.fill-f.auto.1.1.1.1.1.1.1.0 ∙ c.loop-block.invariant.1.1.1.1.1
+shape_of-out-then-not-is_well c = c.fill-f.auto.out ∙ c.loop-block.invariant.1.1.1.1.1
 
 pub returns-then-not-is_well : goal.returns-then-not-is_well
 returns-then-not-is_well c =
@@ -81,7 +81,7 @@ loop-block-preserved c =
     let q = point a.reading (desk a.block a.line a.bytes a.command) a.tally in (
       stands_well args.quiet p args.chunk.now f.result.at w.result _ (sym c.is_well.ensures ∙ not-false c.is_well.result c.if-not-is_well.false)
           (told-turn args.quiet p q args.chunk.now a.at a.out f.result _ _ a.invariant.0 f.ensures _ refl w.new.tally w.result w.ensures),
-      (f.auto.1.0 ∙ l.0, (f.auto.1.1.0 ∙ l.1.0, (f.auto.1.1.1.0 ∙ l.1.1.0, (f.auto.1.1.1.1.0 ∙ l.1.1.1.0, f.auto.1.1.1.1.1.1.1.0 ∙ l.1.1.1.1)))),
+      (f.auto.block ∙ l.0, (f.auto.line ∙ l.1.0, (f.auto.bytes ∙ l.1.1.0, (f.auto.command ∙ l.1.1.1.0, f.auto.out ∙ l.1.1.1.1)))),
     )
 
 pub shape_of-block : goal.shape_of-block

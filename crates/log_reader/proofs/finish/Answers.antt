@@ -19,19 +19,19 @@ feed-f-requires c =
     record { fit = start.requires.fit; number_le_most_lines = (start.requires.number_le_most_lines, simp length-take (omega (arith, c.last_lf-k.ensures, last-short start.args.start.reading))); out_len = start.requires.out_len }
 
 pub shape_of-block : goal.shape_of-block
-shape_of-block c = c.feed-f.auto.1.1.0
+shape_of-block c = c.feed-f.auto.block
 
 pub shape_of-line : goal.shape_of-line
-shape_of-line c = c.feed-f.auto.1.1.1.0
+shape_of-line c = c.feed-f.auto.line
 
 pub shape_of-bytes : goal.shape_of-bytes
-shape_of-bytes c = c.feed-f.auto.1.1.1.1.0
+shape_of-bytes c = c.feed-f.auto.bytes
 
 pub shape_of-command : goal.shape_of-command
-shape_of-command c = c.feed-f.auto.1.1.1.1.1.0
+shape_of-command c = c.feed-f.auto.command
 
 pub shape_of-out : goal.shape_of-out
-shape_of-out c = c.feed-f.auto.1.1.1.1.1.1.0
+shape_of-out c = c.feed-f.auto.out
 
 pub returns : goal.returns
 returns c =

@@ -27,7 +27,7 @@ loop-turns-init c =
       so_far_none args.quiet (desk _ args.line.now args.bytes.now args.command.now) args.tally.now c.begin.result c.begin.ensures (boot-fit d _ start.requires.lent_sizes b.ensures),
       (
         omega (arith, ap (λ (r : Reading). r.number) c.begin.ensures),
-        (omega arith, (sized-kept d _ _ _ _ start.requires.lent_sizes b.auto.0 refl refl refl, (start.requires.out_len.0, start.requires.out_len.1))),
+        (omega arith, (sized-kept d _ _ _ _ start.requires.lent_sizes b.auto.block refl refl refl, (start.requires.out_len.0, start.requires.out_len.1))),
       ),
     )
 
@@ -40,22 +40,22 @@ pub goes_on-requires : goal.goes_on-requires
 goes_on-requires c = tt
 
 pub shape_of-block-then-not-goes_on : goal.shape_of-block-then-not-goes_on
-shape_of-block-then-not-goes_on c = omega (arith, c.turn-next.auto.1.1.0, c.loop-turns.invariant.1.1.1.0.block_long, c.requires.lent_sizes.block_long)
+shape_of-block-then-not-goes_on c = omega (arith, c.turn-next.auto.block, c.loop-turns.invariant.1.1.1.0.block_long, c.requires.lent_sizes.block_long)
 
 pub shape_of-line-then-not-goes_on : goal.shape_of-line-then-not-goes_on
-shape_of-line-then-not-goes_on c = omega (arith, c.turn-next.auto.1.1.1.0, c.loop-turns.invariant.1.1.1.0.line_long, c.requires.lent_sizes.line_long)
+shape_of-line-then-not-goes_on c = omega (arith, c.turn-next.auto.line, c.loop-turns.invariant.1.1.1.0.line_long, c.requires.lent_sizes.line_long)
 
 pub shape_of-bytes-then-not-goes_on : goal.shape_of-bytes-then-not-goes_on
-shape_of-bytes-then-not-goes_on c = omega (arith, c.turn-next.auto.1.1.1.1.0, c.loop-turns.invariant.1.1.1.0.bytes_long, c.requires.lent_sizes.bytes_long)
+shape_of-bytes-then-not-goes_on c = omega (arith, c.turn-next.auto.bytes, c.loop-turns.invariant.1.1.1.0.bytes_long, c.requires.lent_sizes.bytes_long)
 
 pub shape_of-command-then-not-goes_on : goal.shape_of-command-then-not-goes_on
-shape_of-command-then-not-goes_on c = omega (arith, c.turn-next.auto.1.1.1.1.1.0, c.loop-turns.invariant.1.1.1.0.command_long, c.requires.lent_sizes.command_long)
+shape_of-command-then-not-goes_on c = omega (arith, c.turn-next.auto.command, c.loop-turns.invariant.1.1.1.0.command_long, c.requires.lent_sizes.command_long)
 
 pub shape_of-out-then-not-goes_on : goal.shape_of-out-then-not-goes_on
-shape_of-out-then-not-goes_on c = omega (arith, c.turn-next.auto.1.1.1.1.1.1.0, c.loop-turns.invariant.1.1.1.1.0, c.requires.out_len.0)
+shape_of-out-then-not-goes_on c = omega (arith, c.turn-next.auto.out, c.loop-turns.invariant.1.1.1.1.0, c.requires.out_len.0)
 
 pub shape_of-chunk-then-not-goes_on : goal.shape_of-chunk-then-not-goes_on
-shape_of-chunk-then-not-goes_on c = omega (arith, c.turn-next.auto.1.1.1.1.1.1.1.0, c.loop-turns.invariant.1.1.1.1.1, c.requires.out_len.1)
+shape_of-chunk-then-not-goes_on c = omega (arith, c.turn-next.auto.chunk, c.loop-turns.invariant.1.1.1.1.1, c.requires.out_len.1)
 
 pub returns-then-not-goes_on : goal.returns-then-not-goes_on
 returns-then-not-goes_on c =
@@ -77,7 +77,7 @@ loop-turns-preserved c =
         omega (arith, k.numbered, a.invariant.1.0, c.loop-turns-test.true),
         (
           omega (arith, k.counts, k.short, a.invariant.1.1.0, c.loop-turns-test.true),
-          (sized-kept (desk a.block a.line a.bytes a.command) _ _ _ _ a.invariant.1.1.1.0 t.auto.1.1.0 t.auto.1.1.1.0 t.auto.1.1.1.1.0 t.auto.1.1.1.1.1.0, (t.auto.1.1.1.1.1.1.0 ∙ a.invariant.1.1.1.1.0, t.auto.1.1.1.1.1.1.1.0 ∙ a.invariant.1.1.1.1.1)),
+          (sized-kept (desk a.block a.line a.bytes a.command) _ _ _ _ a.invariant.1.1.1.0 t.auto.block t.auto.line t.auto.bytes t.auto.command, (t.auto.out ∙ a.invariant.1.1.1.1.0, t.auto.chunk ∙ a.invariant.1.1.1.1.1)),
         ),
       ),
     )

@@ -23,19 +23,19 @@ finish-requires c =
     record { fit = start.requires.fit; number_le_most_lines = start.requires.number_le_most_lines.0; out_len = start.requires.out_len.0 }
 
 pub shape_of-block-then-n-eq0 : goal.shape_of-block-then-n-eq0
-shape_of-block-then-n-eq0 c = c.finish.auto.1.1.0
+shape_of-block-then-n-eq0 c = c.finish.auto.block
 
 pub shape_of-line-then-n-eq0 : goal.shape_of-line-then-n-eq0
-shape_of-line-then-n-eq0 c = c.finish.auto.1.1.1.0
+shape_of-line-then-n-eq0 c = c.finish.auto.line
 
 pub shape_of-bytes-then-n-eq0 : goal.shape_of-bytes-then-n-eq0
-shape_of-bytes-then-n-eq0 c = c.finish.auto.1.1.1.1.0
+shape_of-bytes-then-n-eq0 c = c.finish.auto.bytes
 
 pub shape_of-command-then-n-eq0 : goal.shape_of-command-then-n-eq0
-shape_of-command-then-n-eq0 c = c.finish.auto.1.1.1.1.1.0
+shape_of-command-then-n-eq0 c = c.finish.auto.command
 
 pub shape_of-out-then-n-eq0 : goal.shape_of-out-then-n-eq0
-shape_of-out-then-n-eq0 c = c.finish.auto.1.1.1.1.1.1.0
+shape_of-out-then-n-eq0 c = c.finish.auto.out
 
 pub shape_of-chunk-then-n-eq0 : goal.shape_of-chunk-then-n-eq0
 shape_of-chunk-then-n-eq0 c = c.read-got.auto.1.0
@@ -54,19 +54,19 @@ overflow_add-result c =
     omega (arith, start.requires.number_le_most_lines.1, c.count-n.ensures.ran.0, c.read-got.auto.1.0, start.requires.out_len.1)
 
 pub shape_of-block : goal.shape_of-block
-shape_of-block c = c.feed-f.auto.1.1.0
+shape_of-block c = c.feed-f.auto.block
 
 pub shape_of-line : goal.shape_of-line
-shape_of-line c = c.feed-f.auto.1.1.1.0
+shape_of-line c = c.feed-f.auto.line
 
 pub shape_of-bytes : goal.shape_of-bytes
-shape_of-bytes c = c.feed-f.auto.1.1.1.1.0
+shape_of-bytes c = c.feed-f.auto.bytes
 
 pub shape_of-command : goal.shape_of-command
-shape_of-command c = c.feed-f.auto.1.1.1.1.1.0
+shape_of-command c = c.feed-f.auto.command
 
 pub shape_of-out : goal.shape_of-out
-shape_of-out c = c.feed-f.auto.1.1.1.1.1.1.0
+shape_of-out c = c.feed-f.auto.out
 
 pub shape_of-chunk : goal.shape_of-chunk
 shape_of-chunk c = c.read-got.auto.1.0

@@ -12,7 +12,7 @@ returns-then-not-is_told c =
     (k.0, (k.1.0, failed_printed f.state f.ended k.0 f.reading _ _ _ (sym c.is_told.ensures ∙ not-true c.is_told.result c.if-not-is_told.true) k.1.1))
 
 pub head-whole-requires : goal.head-whole-requires
-head-whole-requires c = (c.read_log-f.ensures.0.0, c.read_log-f.auto.1.1.1.1.1.0 ∙ c.requires.out_len.0)
+head-whole-requires c = (c.read_log-f.ensures.0.0, c.read_log-f.auto.text ∙ c.requires.out_len.0)
 
 pub returns : goal.returns
 returns c =

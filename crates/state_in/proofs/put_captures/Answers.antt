@@ -14,7 +14,7 @@ put_cells-requires-then-frozen c = let e = c.requires.1.1 c.if-frozen.true in (o
 
 pub returns-then-frozen : goal.returns-then-frozen
 unfolding frozen_from
-returns-then-frozen c = rw c.if-frozen.true (c.put_cells-then-frozen.ensures ∙ ap (over frozen_at capture_bytes (pack_cells capture_bytes c.args.frozen-capture.now)) c.put_cells.ensures)
+returns-then-frozen c = rw c.if-frozen.true (c.put_cells-then-frozen.ensures ∙ ap (over frozen_at capture_bytes (pack_cells capture_bytes c.args.frozen_capture.now)) c.put_cells.ensures)
 
 pub returns-else-frozen : goal.returns-else-frozen
 unfolding frozen_from

@@ -13,6 +13,6 @@ returns c = let a = c.args in
     let b0 = a.block.now in
     let first = c.put.ensures ∙ ap (λ (n : ℕ). over 0 n a.front.now b0) p.1.0 in
     let second = c.put-2.ensures ∙ (λ t. over palettes_at (p.1.1.0 t) a.palettes.now (first t)) in
-    let third = c.put_cells.ensures ∙ ap (over map_at map_bytes (pack_cells map_bytes a.attribute-map.now)) second in
-    let fourth = c.put-3.ensures ∙ (λ t. over system_at (p.1.1.1.1.0 t) a.system-palettes.now (third t)) in
-    c.put_cells-2.ensures ∙ ap (over files_at files_bytes (pack_cells files_bytes a.attribute-files.now)) fourth
+    let third = c.put_cells.ensures ∙ ap (over map_at map_bytes (pack_cells map_bytes a.attribute_map.now)) second in
+    let fourth = c.put-3.ensures ∙ (λ t. over system_at (p.1.1.1.1.0 t) a.system_palettes.now (third t)) in
+    c.put_cells-2.ensures ∙ ap (over files_at files_bytes (pack_cells files_bytes a.attribute_files.now)) fourth

@@ -15,13 +15,13 @@ pub put-requires-3 : goal.put-requires-3
 put-requires-3 c = simp (length-take, length-drop) (omega arith)
 
 pub shape_of-border_tiles : goal.shape_of-border_tiles
-shape_of-border_tiles c = c.put.auto.0
+shape_of-border_tiles c = c.put.auto.dst
 
 pub shape_of-border_map : goal.shape_of-border_map
-shape_of-border_map c = c.put-2.auto.0
+shape_of-border_map c = c.put-2.auto.dst
 
 pub shape_of-border_palettes : goal.shape_of-border_palettes
-shape_of-border_palettes c = c.put-3.auto.0
+shape_of-border_palettes c = c.put-3.auto.dst
 
 pub returns : goal.returns
 unfolding state_of laid

@@ -15,10 +15,10 @@ pub unpack_cells-requires-then-block-eq1 : goal.unpack_cells-requires-then-block
 unpack_cells-requires-then-block-eq1 c = simp (length-take, length-drop) (omega arith)
 
 pub shape_of-capture-then-block-eq1 : goal.shape_of-capture-then-block-eq1
-shape_of-capture-then-block-eq1 c = c.unpack_cells.auto.0
+shape_of-capture-then-block-eq1 c = c.unpack_cells.auto.cells
 
 pub shape_of-frozen_capture : goal.shape_of-frozen_capture
-shape_of-frozen_capture c = c.unpack_cells-then-block-eq1.auto.0
+shape_of-frozen_capture c = c.unpack_cells-then-block-eq1.auto.cells
 
 pub returns-then-block-eq1 : goal.returns-then-block-eq1
 unfolding state_of laid
@@ -26,11 +26,11 @@ returns-then-block-eq1 c = let b = c.args.block.now in
     record {
       capture_after = c.unpack_cells.ensures ∙ cells-laid capture_bytes (part live_at capture_bytes b) c.args.capture.now (length_part live_at capture_bytes b (omega arith));
       frozen_capture_after = rw (eq-eqb _ _ c.if-block-eq1.true)
-          (c.unpack_cells-then-block-eq1.ensures ∙ cells-laid capture_bytes (part frozen_at capture_bytes b) c.args.frozen-capture.now (length_part frozen_at capture_bytes b (omega arith)));
+          (c.unpack_cells-then-block-eq1.ensures ∙ cells-laid capture_bytes (part frozen_at capture_bytes b) c.args.frozen_capture.now (length_part frozen_at capture_bytes b (omega arith)));
     }
 
 pub shape_of-capture-else-block-eq1 : goal.shape_of-capture-else-block-eq1
-shape_of-capture-else-block-eq1 c = c.unpack_cells.auto.0
+shape_of-capture-else-block-eq1 c = c.unpack_cells.auto.cells
 
 pub returns-else-block-eq1 : goal.returns-else-block-eq1
 unfolding state_of laid

@@ -12,16 +12,16 @@ use borrow.Author.Rules.{rules}
 use Rattle.state_out.proofs.lay_front.Goals as goal
 
 pub shape_of-fields-then-block-eq1 : goal.shape_of-fields-then-block-eq1
-shape_of-fields-then-block-eq1 c = c.put.auto.0
+shape_of-fields-then-block-eq1 c = c.put.auto.dst
 
 pub shape_of-packet-then-block-eq1 : goal.shape_of-packet-then-block-eq1
-shape_of-packet-then-block-eq1 c = c.put-2.auto.0
+shape_of-packet-then-block-eq1 c = c.put-2.auto.dst
 
 pub shape_of-packets-then-block-eq1 : goal.shape_of-packets-then-block-eq1
-shape_of-packets-then-block-eq1 c = c.put-3.auto.0
+shape_of-packets-then-block-eq1 c = c.put-3.auto.dst
 
 pub shape_of-preset : goal.shape_of-preset
-shape_of-preset c = c.put-then-block-eq1.auto.0
+shape_of-preset c = c.put-then-block-eq1.auto.dst
 
 pub returns-then-block-eq1 : goal.returns-then-block-eq1
 unfolding state_of laid held
@@ -31,13 +31,13 @@ returns-then-block-eq1 c = let b = c.args.block.now in
     record { fields_after = c.put.ensures; packet_after = c.put-2.ensures; packets_after = packets; preset_after = rw (eq-eqb _ _ c.if-block-eq1.true) c.put-then-block-eq1.ensures }
 
 pub shape_of-fields-else-block-eq1 : goal.shape_of-fields-else-block-eq1
-shape_of-fields-else-block-eq1 c = c.put.auto.0
+shape_of-fields-else-block-eq1 c = c.put.auto.dst
 
 pub shape_of-packet-else-block-eq1 : goal.shape_of-packet-else-block-eq1
-shape_of-packet-else-block-eq1 c = c.put-2.auto.0
+shape_of-packet-else-block-eq1 c = c.put-2.auto.dst
 
 pub shape_of-packets-else-block-eq1 : goal.shape_of-packets-else-block-eq1
-shape_of-packets-else-block-eq1 c = c.put-3.auto.0
+shape_of-packets-else-block-eq1 c = c.put-3.auto.dst
 
 pub returns-else-block-eq1 : goal.returns-else-block-eq1
 unfolding state_of laid held

@@ -7,7 +7,7 @@ use Rattle.export.proofs.Fitting.{picture-fits}
 use Rattle.export.proofs.looking.sporedrift_picture.Goals as goal
 
 pub of_number-requires : goal.of_number-requires
-of_number-requires c = fits_of c.picture.ensures.0 (picture-fits _ _)
+of_number-requires c = fits_of c.picture.ensures.result_value (picture-fits _ _)
 
 pub returns : goal.returns
-returns c = record { value = c.of_number.ensures ∙ ap (coded value) c.picture.ensures.0; out_after = c.picture.ensures.1 }
+returns c = record { value = c.of_number.ensures ∙ ap (coded value) c.picture.ensures.result_value; out_after = c.picture.ensures.out_after }

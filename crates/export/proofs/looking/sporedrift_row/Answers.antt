@@ -7,7 +7,7 @@ use Rattle.export.proofs.Fitting.{row_fits}
 use Rattle.export.proofs.looking.sporedrift_row.Goals as goal
 
 pub of_number-requires : goal.of_number-requires
-of_number-requires c = fits_of c.row.ensures.0 (row_fits _ _ _)
+of_number-requires c = fits_of c.row.ensures.result_value (row_fits _ _ _)
 
 pub returns : goal.returns
-returns c = record { value = c.of_number.ensures ∙ ap (coded value) c.row.ensures.0; out_after = c.row.ensures.1 }
+returns c = record { value = c.of_number.ensures ∙ ap (coded value) c.row.ensures.result_value; out_after = c.row.ensures.out_after }
