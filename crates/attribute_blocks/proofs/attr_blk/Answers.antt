@@ -1,12 +1,9 @@
 -- Each turn does the next set, and the turns end where the announced sets or the whole ones do.
 use mathlib.Core.Path.{ap, ◌∙◌}
-use Prim.Native.Nat.{◌≤◌, ◌+◌, ◌-◌, ◌*◌}
 use native.Mathlib.Omega.{arith}
-use borrow.Author.Rules.{rules}
-use lib.ListN.{length}
 use Rattle.attribute_map.specs.Data.{changed, steps}
 use Rattle.attribute_blocks.specs.Blk.{blk_cell, set_at, blk_map}
-use Rattle.attribute_map.proofs.Steps.{After, after_none, after_more}
+use Rattle.attribute_map.proofs.Steps.{after_none, after_more}
 use Rattle.attribute_blocks.proofs.attr_blk.Goals as goal
 
 pub loop-i-init : goal.loop-i-init

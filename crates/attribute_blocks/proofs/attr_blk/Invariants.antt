@@ -1,11 +1,8 @@
-use mathlib.Core.Path.{ap, ◌∙◌}
 use Prim.Native.Nat.{◌≤◌, ◌+◌, ◌-◌, ◌*◌}
-use native.Mathlib.Omega.{arith}
-use borrow.Author.Rules.{rules}
 use lib.ListN.{length}
-use Rattle.attribute_map.specs.Data.{changed, steps}
-use Rattle.attribute_blocks.specs.Blk.{blk_cell, set_at, blk_map}
-use Rattle.attribute_map.proofs.Steps.{After, after_none, after_more}
+use Rattle.attribute_map.specs.Data.{changed}
+use Rattle.attribute_blocks.specs.Blk.{blk_cell, set_at}
+use Rattle.attribute_map.proofs.Steps.{After}
 use Rattle.attribute_blocks.proofs.attr_blk.Given as goal
 
 abbrev pub invariant-loop-i : goal.invariant-loop-i

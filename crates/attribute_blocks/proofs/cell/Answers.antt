@@ -1,6 +1,5 @@
 -- The answers of the calls are the definition's parts.
 use mathlib.Core.Path.{◌∙◌}
-use borrow.Author.Rules.{rules}
 use Rattle.attribute_blocks.specs.Blk.{blk_cell}
 use Rattle.attribute_blocks.proofs.cell.Goals as goal
 

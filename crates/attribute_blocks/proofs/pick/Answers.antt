@@ -1,7 +1,6 @@
 -- Each return is the case of the definition that its tests leave.
 use mathlib.Core.Path.{◌∙◌}
 use native.Mathlib.Nat.{div-one}
-use borrow.Author.Rules.{rules}
 use Rattle.bits.proofs.Masks.{bit-set, bit-clear, pair-mask}
 use Rattle.attribute_blocks.specs.Blk.{blk_pick}
 use Rattle.attribute_blocks.proofs.pick.Goals as goal

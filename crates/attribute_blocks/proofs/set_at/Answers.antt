@@ -1,6 +1,5 @@
 -- The six bytes are read where the set stands.
 use mathlib.Core.Path.{refl}
-use borrow.Author.Rules.{rules}
 use Rattle.attribute_blocks.specs.Blk.{set_at}
 use Rattle.attribute_blocks.proofs.set_at.Goals as goal
 

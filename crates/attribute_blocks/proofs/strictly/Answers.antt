@@ -2,7 +2,6 @@
 use Prim.Native.Nat.{◌<◌, ◌≤◌}
 use native.Mathlib.Omega.{arith}
 use borrow.Author.Tests.{lt-ltb, le-ltb}
-use borrow.Author.Rules.{rules}
 use Rattle.attribute_blocks.proofs.strictly.Goals as goal
 
 pub returns-then-wide-p : goal.returns-then-wide-p

@@ -1,7 +1,6 @@
 -- The bytes read are the definition's, and a pair that is announced and held is within the data.
 use mathlib.Core.Path.{◌∙◌}
-use borrow.Author.Rules.{rules}
-use Rattle.bits.specs.Word.{word, word_at}
+use Rattle.bits.specs.Word.{word_at}
 use Rattle.attribute_cells.specs.Chr.{chr_map}
 use Rattle.attribute_cells.proofs.attr_chr.Goals as goal
 

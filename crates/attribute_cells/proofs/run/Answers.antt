@@ -1,13 +1,11 @@
 -- Each turn puts the next pair at its place and goes on to the place after it.
 use mathlib.Core.Path.{◌≡◌, ap, ◌∙◌}
-use Prim.Native.Nat.{◌≤◌, ◌+◌, ◌-◌}
 use native.Mathlib.Omega.{arith}
 use borrow.Author.Tests.{lt-ltb, le-ltb}
-use borrow.Author.Rules.{rules}
 use Rattle.attribute_map.specs.Data.{steps}
 use Rattle.attribute_cells.specs.Chr.{place_of, put_at, pair_of_data}
-use Rattle.attribute_map.proofs.Steps.{After, after_none, after_more}
-use Rattle.attribute_cells.proofs.Places.{Placed, placed_none, placed-more, Near, near_next}
+use Rattle.attribute_map.proofs.Steps.{after_none, after_more}
+use Rattle.attribute_cells.proofs.Places.{placed_none, placed-more, near_next}
 use Rattle.attribute_cells.proofs.run.Goals.{then-x-lt20+then-y-lt18, then-x-lt20+else-y-lt18, else-x-lt20}
 use Rattle.attribute_cells.proofs.run.Goals as goal
 
@@ -27,9 +25,9 @@ loop-k-preserved c =
     let l = c.loop-k in
     let put : c.if-x-lt20.m ≡ put_at l.s c.pair-v.result l.m =
     elim c.if-x-lt20.branch [
-    | then-x-lt20+then-y-lt18 w ↦ rw (w.m-is, lt-ltb _ _ w.if-x-lt20.true, lt-ltb _ _ w.if-y-lt18.true)
-    | then-x-lt20+else-y-lt18 w ↦ rw (w.m-is, lt-ltb _ _ w.if-x-lt20.true, le-ltb _ _ w.if-y-lt18.false)
-    | else-x-lt20 w ↦ rw (w.m-is, le-ltb _ _ w.if-x-lt20.false)
+      | then-x-lt20+then-y-lt18 w ↦ rw (w.m-is, lt-ltb _ _ w.if-x-lt20.true, lt-ltb _ _ w.if-y-lt18.true)
+      | then-x-lt20+else-y-lt18 w ↦ rw (w.m-is, lt-ltb _ _ w.if-x-lt20.true, le-ltb _ _ w.if-y-lt18.false)
+      | else-x-lt20 w ↦ rw (w.m-is, le-ltb _ _ w.if-x-lt20.false)
     ] in (
       omega arith,
       near_next _ l.invariant.1 c.next-s.ensures _ (omega arith),

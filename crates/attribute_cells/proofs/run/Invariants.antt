@@ -1,13 +1,7 @@
-use mathlib.Core.Path.{◌≡◌, ap, ◌∙◌}
-use mathlib.Core.Logic.{⊎_elim}
 use Prim.Native.Nat.{◌≤◌, ◌+◌, ◌-◌}
-use native.Mathlib.Omega.{arith}
-use borrow.Author.Tests.{lt-ltb, le-ltb}
-use borrow.Author.Rules.{rules}
-use Rattle.attribute_map.specs.Data.{steps}
 use Rattle.attribute_cells.specs.Chr.{place_of, put_at, pair_of_data}
-use Rattle.attribute_map.proofs.Steps.{After, after_none, after_more}
-use Rattle.attribute_cells.proofs.Places.{Placed, placed_none, placed-more, Near, near_next}
+use Rattle.attribute_map.proofs.Steps.{After}
+use Rattle.attribute_cells.proofs.Places.{Placed, Near}
 use Rattle.attribute_cells.proofs.run.Given as goal
 
 abbrev pub invariant-loop-k : goal.invariant-loop-k

@@ -1,9 +1,7 @@
 -- Each turn stores the pair of its own cell, and every cell has its turn.
-use Prim.Native.Nat.{◌-◌, ◌≤◌}
 use native.Mathlib.Omega.{arith}
-use borrow.Author.Rules.{rules}
-use Rattle.attribute_map.specs.Map.{packed_cell, unpack}
-use Rattle.attribute_map.proofs.Painting.{Painting, painting_none, painting_turn, painting-row, painting_all}
+use Rattle.attribute_map.specs.Map.{unpack}
+use Rattle.attribute_map.proofs.Painting.{painting_none, painting_turn, painting-row, painting_all}
 use Rattle.attribute_map.proofs.Sizes.{sized}
 use Rattle.attribute_map.proofs.fill.Goals as goal
 

@@ -1,15 +1,12 @@
 -- Each turn stores the byte of the next four cells.
-use mathlib.Core.Path.{◌≡◌, sym, ◌∙◌}
-use Prim.Native.Nat.{◌-◌, ◌≤◌}
+use mathlib.Core.Path.{sym, ◌∙◌}
 use native.Mathlib.Nat.{add-zero, zero-add}
 use native.Mathlib.Omega.{arith}
 use borrow.Author.Rules.{rules}
-use lib.ListN.{length}
 use Rattle.parts.specs.Parts.{map_bytes}
 use Rattle.bits.proofs.Painting.{painted-count, painted_none, painted_turn, painted_all, painted-length}
 use Rattle.bits.specs.Pair.{packed}
-use Rattle.bits.specs.Paint.{Painted}
-use Rattle.attribute_map.specs.Map.{four_at, pack}
+use Rattle.attribute_map.specs.Map.{pack}
 use Rattle.attribute_map.proofs.pack.Goals as goal
 
 pub loop-i-init : goal.loop-i-init

@@ -1,14 +1,9 @@
-use mathlib.Core.Path.{◌≡◌, sym, ◌∙◌}
+use mathlib.Core.Path.{◌≡◌}
 use Prim.Native.Nat.{◌-◌, ◌≤◌}
-use native.Mathlib.Nat.{add-zero, zero-add}
-use native.Mathlib.Omega.{arith}
-use borrow.Author.Rules.{rules}
 use lib.ListN.{length}
 use Rattle.parts.specs.Parts.{map_bytes}
-use Rattle.bits.proofs.Painting.{painted-count, painted_none, painted_turn, painted_all, painted-length}
-use Rattle.bits.specs.Pair.{packed}
 use Rattle.bits.specs.Paint.{Painted}
-use Rattle.attribute_map.specs.Map.{four_at, pack}
+use Rattle.attribute_map.specs.Map.{four_at}
 use Rattle.attribute_map.proofs.pack.Given as goal
 
 abbrev pub invariant-loop-i : goal.invariant-loop-i

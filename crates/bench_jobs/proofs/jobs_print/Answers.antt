@@ -1,7 +1,5 @@
 -- The sizes are those that were tested.
 use native.Mathlib.Omega.{arith}
-use borrow.Author.Tests.{not-false}
-use borrow.Author.Rules.{rules}
 use Rattle.bench_jobs.proofs.jobs_print.Goals as goal
 
 pub read_log-n-requires : goal.read_log-n-requires

@@ -1,14 +1,13 @@
 -- A turn takes a chunk by a fill; what is left of the input falls with it.
-use mathlib.Core.Path.{◌≡◌, refl, ap, ◌∙◌}
-use Prim.Native.Nat.{ℕ, ◌+◌, ◌-◌, ◌≤◌, ◌<◌}
-use mathlib.Core.List.{List}
+use mathlib.Core.Path.{refl, ap, ◌∙◌}
+use Prim.Native.Nat.{◌+◌, ◌≤◌}
 use native.Mathlib.Omega.{arith}
 use borrow.Author.Rules.{rules}
-use lib.ListN.{length, take, drop}
-use Rattle.log_chunks.specs.Steps.{desk, left}
+use lib.ListN.{length}
+use Rattle.log_chunks.specs.Steps.{desk}
 use Rattle.log_reader.specs.Fed.{out_bytes}
 use Rattle.log_reading.specs.declared.Reading.{Reading}
-use Rattle.bench_jobs.proofs.Chunks.{Within, begun-fit, part_is, within_on, ends-within, left-falls}
+use Rattle.bench_jobs.proofs.Chunks.{begun-fit, part_is, within_on, ends-within, left-falls}
 use Rattle.bench_jobs.proofs.read_log.Goals as goal
 
 pub loop-reading-init : goal.loop-reading-init

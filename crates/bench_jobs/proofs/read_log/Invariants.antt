@@ -1,13 +1,8 @@
-use mathlib.Core.Path.{◌≡◌, refl, ap, ◌∙◌}
-use Prim.Native.Nat.{ℕ, ◌+◌, ◌-◌, ◌≤◌, ◌<◌}
-use mathlib.Core.List.{List}
-use native.Mathlib.Omega.{arith}
-use borrow.Author.Rules.{rules}
-use lib.ListN.{length, take, drop}
+use mathlib.Core.Path.{◌≡◌}
+use Prim.Native.Nat.{◌<◌}
+use lib.ListN.{length}
 use Rattle.log_chunks.specs.Steps.{desk, left}
-use Rattle.log_reader.specs.Fed.{out_bytes}
-use Rattle.log_reading.specs.declared.Reading.{Reading}
-use Rattle.bench_jobs.proofs.Chunks.{Within, begun-fit, part_is, within_on, ends-within, left-falls}
+use Rattle.bench_jobs.proofs.Chunks.{Within}
 use Rattle.bench_jobs.proofs.read_log.Given as goal
 
 abbrev pub invariant-loop-reading : goal.invariant-loop-reading

@@ -1,8 +1,5 @@
 -- A row a turn, each in its own part of the text.
-use mathlib.Core.Path.{◌≡◌}
-use Prim.Native.Nat.{◌-◌, ◌≤◌}
 use borrow.Author.Rules.{rules}
-use lib.ListN.{length}
 use Rattle.bench_jobs.proofs.rows.Goals as goal
 
 pub row_line-requires : goal.row_line-requires

@@ -1,13 +1,7 @@
 -- `bits::all_zero` meets its contract: all that passed are zero exactly if their OR is.
-use Prim.Native.Nat.{◌-◌, ◌≤◌}
-use mathlib.Core.Bool.{◌&&◌}
-use mathlib.Core.Path.{◌≡◌, refl, sym, ◌∙◌}
+use mathlib.Core.Path.{refl, sym, ◌∙◌}
 use native.Mathlib.Omega.{arith}
-use lib.Dec.{eqb}
-use lib.ListN.{length, drop}
-use Rattle.bits.specs.Zero.{zeros}
 use Rattle.bits.proofs.Zeros.{zeros_turn, zeros_end}
-use borrow.Author.Rules.{rules}
 use Rattle.bits.proofs.all_zero.Goals as goal
 
 pub loop-i-init : goal.loop-i-init

@@ -1,10 +1,10 @@
 -- `bits::clear` meets its contract: after i turns the first i elements are zero.
-use Prim.Native.Nat.{ℕ, ◌≤◌, ◌<◌, ◌-◌}
+use Prim.Native.Nat.{ℕ}
 use mathlib.Core.Path.{◌≡◌, ◌∙◌, ap, refl}
 use native.Mathlib.Omega.{arith}
 use borrow.Author.Count.{below_more}
 use borrow.Author.Rules.{rules, read_below}
-use lib.ListN.{length, get_or, set, replicate, length-set}
+use lib.ListN.{get_or, set, replicate, length-set}
 use lib.Seq.{get_or-set_same}
 use Rattle.bits.proofs.Zeros.{all-zeros}
 use Rattle.bits.proofs.clear.Goals as goal

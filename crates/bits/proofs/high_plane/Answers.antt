@@ -1,6 +1,5 @@
 -- `bits::high_plane` meets its contract: two halves make the plane byte.
 use mathlib.Core.Path.{◌∙◌}
-use borrow.Author.Rules.{rules}
 use native.Mathlib.Omega.{arith}
 use Rattle.bits.proofs.Planes.{plane-halves, nibble-half}
 use Rattle.bits.proofs.high_plane.Goals as goal

@@ -1,5 +1,4 @@
 -- `bits::left_four` meets its contract: the high bits of the pairs, and the low ones.
-use borrow.Author.Rules.{rules}
 use native.Mathlib.Omega.{arith}
 use Rattle.bits.proofs.Planes.{left_is}
 use Rattle.bits.proofs.left_four.Goals as goal

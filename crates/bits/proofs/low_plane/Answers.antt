@@ -1,5 +1,4 @@
 -- `bits::low_plane` meets its contract: two halves make the plane byte.
-use borrow.Author.Rules.{rules}
 use Rattle.bits.proofs.Planes.{plane-halves}
 use Rattle.bits.proofs.low_plane.Goals as goal
 

@@ -1,5 +1,4 @@
 -- `bits::pair` meets its contract: its shift and mask are tried at every byte and place.
-use borrow.Author.Rules.{rules}
 use native.Mathlib.Omega.{arith}
 use Rattle.bits.proofs.Pairs.{shifted_pair}
 use Rattle.bits.proofs.pair.Goals as goal

@@ -1,10 +1,9 @@
 -- `bits::put` meets its contract: after i turns the first i elements stand in their places.
-use Prim.Native.Nat.{◌≤◌, ◌-◌}
 use mathlib.Core.Path.{◌≡◌, ◌∙◌}
 use native.Mathlib.Numerals.{add-one}
 use native.Mathlib.Omega.{arith}
 use lib.ListN.{length, length-set}
-use lib.Seq.{paste, paste-zero, paste-suc}
+use lib.Seq.{paste-zero, paste-suc}
 use Rattle.bits.proofs.Overs.{paste-over}
 use Rattle.bits.proofs.put.Goals as goal
 

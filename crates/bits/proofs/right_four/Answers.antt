@@ -1,5 +1,4 @@
 -- `bits::right_four` meets its contract: the high bits of the pairs, and the low ones.
-use borrow.Author.Rules.{rules}
 use native.Mathlib.Omega.{arith}
 use Rattle.bits.proofs.Planes.{right_is}
 use Rattle.bits.proofs.right_four.Goals as goal

@@ -1,7 +1,6 @@
 -- `bits_eight::eight` meets its contract: each byte goes above those before it.
 use Prim.Native.Nat.{◌+◌, ◌*◌}
 use mathlib.Core.Path.{◌∙◌}
-use borrow.Author.Rules.{rules}
 use Rattle.bits_eight.specs.Eight.{eight_at}
 use Rattle.bits_eight.proofs.Eights.{eight-bytes}
 use Rattle.bits_eight.proofs.eight.Goals as goal

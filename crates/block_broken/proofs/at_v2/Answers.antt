@@ -1,5 +1,4 @@
 -- What is asked, one after the other.
-use borrow.Author.Rules.{rules}
 use mathlib.Core.Path.{ap, ap₂, ◌∙◌}
 use Rattle.parts.specs.Parts.{p15_at}
 use Rattle.broken.specs.Broken.{asks2, asked, byte_of, lower, lowest}

@@ -1,5 +1,4 @@
 -- What is asked, one after the other.
-use borrow.Author.Rules.{rules}
 use mathlib.Core.Path.{ap₂, ◌∙◌}
 use Rattle.broken.specs.Broken.{asks4, lower, lowest}
 use Rattle.broken.proofs.Lowest.{lower_none}

@@ -1,5 +1,4 @@
 -- The preset's bytes are looked at exactly if byte 9 is 0.
-use borrow.Author.Rules.{rules}
 use borrow.Author.Tests.{eq-eqb, ne_eqb}
 use Rattle.broken.specs.Broken.{asks5, lowest}
 use Rattle.block_found.specs.Found.{found_told}

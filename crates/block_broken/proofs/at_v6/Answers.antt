@@ -1,5 +1,4 @@
 -- The mask mode first, and the frozen capture's bytes exactly if byte 12 is 0.
-use borrow.Author.Rules.{rules}
 use borrow.Author.Tests.{eq-eqb, ne_eqb}
 use mathlib.Core.Path.{ap, ap₂, ◌∙◌}
 use Rattle.parts.specs.Parts.{mask_at}

@@ -1,6 +1,4 @@
 -- One of V1 to V5, or V6 behind them.
-use borrow.Author.Rules.{rules}
-use borrow.Author.Tests.{not-true, not-false}
 use mathlib.Core.Path.{ap, sym, ◌∙◌}
 use Rattle.broken.specs.Broken.{number_of}
 use Rattle.broken.proofs.Numbers.{told-front, told-6, told-all}

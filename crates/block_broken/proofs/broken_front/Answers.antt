@@ -1,6 +1,4 @@
 -- Past each rule whose test holds; the byte of the first that fails.
-use borrow.Author.Rules.{rules}
-use borrow.Author.Tests.{not-true, not-false}
 use mathlib.Core.List.{[]}
 use mathlib.Core.Path.{ap, sym, ◌∙◌}
 use Rattle.broken.specs.Broken.{number_of}

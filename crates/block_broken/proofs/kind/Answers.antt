@@ -1,5 +1,4 @@
 -- By the countdown.
-use borrow.Author.Rules.{rules}
 use borrow.Author.Tests.{eq-eqb, ne_eqb}
 use Rattle.block_broken.proofs.kind.Goals as goal
 

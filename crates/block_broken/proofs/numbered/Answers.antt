@@ -1,5 +1,4 @@
 -- Either case is the definition's.
-use borrow.Author.Rules.{rules}
 use Rattle.broken.specs.Broken.{number_of}
 use Rattle.block_found.specs.Found.{found_told}
 use Rattle.block_broken.proofs.numbered.Goals as goal

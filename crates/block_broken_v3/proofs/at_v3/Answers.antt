@@ -1,5 +1,4 @@
 -- The stage's number picks what is asked; a lent block is bytes.
-use borrow.Author.Rules.{rules}
 use borrow.Author.Tests.{lt-leb}
 use native.Mathlib.Omega.{arith}
 use mathlib.Core.Path.{ap₂, sym, ◌∙◌}

@@ -1,5 +1,4 @@
 -- What is asked, one after the other.
-use borrow.Author.Rules.{rules}
 use mathlib.Core.Path.{ap₂, ◌∙◌}
 use Rattle.broken.specs.Broken.{coming, lower, lowest}
 use Rattle.block_broken_v3.proofs.coming.Goals as goal

@@ -1,5 +1,4 @@
 -- What is asked, one after the other; the count is that of the store's first byte.
-use borrow.Author.Rules.{rules}
 use mathlib.Core.Path.{ap, ap₂, ◌∙◌}
 use lib.Dec.{eqb}
 use lib.ListN.{get_or}

@@ -1,5 +1,4 @@
 -- Behind seven packets the store is empty; else a part of it is a part of the block.
-use borrow.Author.Rules.{rules}
 use mathlib.Core.Path.{ap, ◌∙◌}
 use Prim.Native.Nat.{◌+◌, ◌*◌, ◌≤◌}
 use native.Mathlib.Omega.{arith}

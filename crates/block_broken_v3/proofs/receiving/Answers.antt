@@ -1,5 +1,4 @@
 -- By whether a packet is in.
-use borrow.Author.Rules.{rules}
 use borrow.Author.Tests.{eq-eqb, ne_eqb}
 use mathlib.Core.Path.{ap₂, sym, ◌∙◌}
 use Rattle.broken.specs.Broken.{asks_of, lower}

@@ -1,5 +1,4 @@
 -- What is asked, one after the other.
-use borrow.Author.Rules.{rules}
 use native.Mathlib.Omega.{arith}
 use mathlib.Core.Path.{ap, ap₂, ◌∙◌}
 use Rattle.parts.specs.Parts.{packet_at, packet_bytes, store_bytes}

@@ -1,7 +1,6 @@
 -- Each arm knows which command it is, and its worker does that.
 use mathlib.Core.Path.{◌∙◌}
 use Rattle.commands.specs.Told.{told_fixed}
-use borrow.Author.Rules.{rules}
 use Rattle.block_command.proofs.carry_fixed.Goals as goal
 
 pub returns-in-PalSet : goal.returns-in-PalSet

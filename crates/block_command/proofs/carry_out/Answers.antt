@@ -3,7 +3,6 @@ use mathlib.Core.Path.{ap, ◌∙◌}
 use Rattle.commands.specs.Command.{Command}
 use Rattle.block_plain.specs.Carrying.{carried_block}
 use Rattle.block_command.proofs.Told.{plain-told, fixed_told, plain-good}
-use borrow.Author.Rules.{rules}
 use Rattle.block_command.proofs.carry_out.Goals as goal
 
 pub carry_plain-requires : goal.carry_plain-requires

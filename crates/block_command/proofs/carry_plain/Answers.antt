@@ -3,7 +3,6 @@ use mathlib.Core.Path.{◌∙◌}
 use Rattle.commands.specs.Told.{told_plain}
 use Rattle.block_plain.proofs.Carried.{nothing-done}
 use Rattle.block_command.proofs.Told.{pair-few, mask-plain}
-use borrow.Author.Rules.{rules}
 use Rattle.block_command.proofs.carry_plain.Goals as goal
 
 pub pal_pair-requires : goal.pal_pair-requires

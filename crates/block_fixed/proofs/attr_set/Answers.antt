@@ -2,7 +2,6 @@
 use lib.ListN.{get_or}
 use Rattle.commands.specs.Files.{attr_set_map}
 use Rattle.block_fixed.proofs.Chain.{filing, filing-kept, changed-valid, set_long, attr-set-done}
-use borrow.Author.Rules.{rules}
 use Rattle.block_fixed.proofs.attr_set.Goals as goal
 
 pub unmask-requires : goal.unmask-requires

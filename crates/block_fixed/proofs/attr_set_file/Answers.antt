@@ -5,7 +5,6 @@ use Rattle.parts.specs.Parts.{map_bytes}
 use Rattle.commands.specs.Files.{attr_set_map}
 use Rattle.block_fixed.proofs.Carried.{file-put}
 use Rattle.block_fixed.proofs.Chain.{set_long}
-use borrow.Author.Rules.{rules}
 use Rattle.block_fixed.proofs.attr_set_file.Goals as goal
 
 pub returns : goal.returns

@@ -8,7 +8,6 @@ use Rattle.parts.specs.Parts.{block_bytes, mask_at, frozen_on_at, live_at, captu
 use Rattle.bits.specs.Over.{part}
 use Rattle.layout.proofs.Saved.{long-part}
 use Rattle.block_fixed.proofs.Carried.{copied, frozen-put, frozen-long}
-use borrow.Author.Rules.{rules}
 use Rattle.block_fixed.proofs.freeze.Goals as goal
 
 pub bounds-block-12 : goal.bounds-block-12

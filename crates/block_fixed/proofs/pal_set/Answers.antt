@@ -2,7 +2,6 @@
 use lib.ListN.{get_or}
 use Rattle.commands.specs.Files.{pal_set_map}
 use Rattle.block_fixed.proofs.Chain.{taking, taking-kept, filing, filing-kept, changed-valid, pal-long, pal-set-done}
-use borrow.Author.Rules.{rules}
 use Rattle.block_fixed.proofs.pal_set.Goals as goal
 
 pub pal_set_file-requires : goal.pal_set_file-requires

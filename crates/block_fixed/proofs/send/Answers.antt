@@ -1,7 +1,6 @@
 -- What is pending goes into its two bytes.
 use mathlib.Core.Path.{◌∙◌}
 use Rattle.block_fixed.proofs.Carried.{sent-put}
-use borrow.Author.Rules.{rules}
 use Rattle.block_fixed.proofs.send.Goals as goal
 
 pub returns : goal.returns

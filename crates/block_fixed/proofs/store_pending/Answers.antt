@@ -1,5 +1,4 @@
 -- Each of the two bytes is what its call answers.
-use borrow.Author.Rules.{rules}
 use Rattle.block_fixed.proofs.store_pending.Goals as goal
 
 pub returns : goal.returns

@@ -1,6 +1,5 @@
 -- The palettes that were chosen go into the block whose preset has ended.
 use Rattle.block_fixed.proofs.Carried.{palettes-taken}
-use borrow.Author.Rules.{rules}
 use Rattle.block_fixed.proofs.take_palettes.Goals as goal
 
 pub returns : goal.returns

@@ -1,7 +1,6 @@
 -- The mode is zero if bit 6 is set, and else the block stays.
 use Rattle.bits.proofs.Masks.{bit-set, bit-clear}
 use Rattle.block_fixed.proofs.Carried.{unmasked, still-masked}
-use borrow.Author.Rules.{rules}
 use Rattle.block_fixed.proofs.unmask.Goals as goal
 
 pub returns-then-flags-ne0 : goal.returns-then-flags-ne0

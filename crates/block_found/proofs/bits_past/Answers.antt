@@ -1,15 +1,14 @@
 -- Byte by byte: the first with such a bit is told, since the others stand behind it.
-use Prim.Native.Nat.{suc, ◌+◌, ◌-◌, ◌/◌, ◌^◌, ◌≤◌, ◌<◌}
+use Prim.Native.Nat.{suc, ◌+◌, ◌/◌, ◌^◌}
 use mathlib.Core.Path.{◌≡◌, refl, sym, ap, ◌∙◌}
 use native.Mathlib.Omega.{arith}
-use lib.ListN.{length, get_or, drop}
+use lib.ListN.{length, drop}
 use Rattle.parts.specs.Parts.{packet_at, packet_bytes}
 use Rattle.bits.specs.Over.{part}
 use Rattle.bits.proofs.Overs.{length_part, get_or-part}
 use Rattle.broken.specs.Broken.{lowest, clear_from}
 use Rattle.block_found.specs.Found.{found_told}
 use Rattle.block_found.proofs.Firsts.{clear-found, clear_next, clear_end}
-use borrow.Author.Rules.{rules}
 use Rattle.block_found.proofs.bits_past.Goals as goal
 
 pub loop-i-init : goal.loop-i-init

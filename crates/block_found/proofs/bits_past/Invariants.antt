@@ -1,14 +1,9 @@
-use Prim.Native.Nat.{suc, ◌+◌, ◌-◌, ◌/◌, ◌^◌, ◌≤◌, ◌<◌}
-use mathlib.Core.Path.{◌≡◌, refl, sym, ap, ◌∙◌}
-use native.Mathlib.Omega.{arith}
-use lib.ListN.{length, get_or, drop}
+use Prim.Native.Nat.{◌+◌, ◌-◌, ◌≤◌}
+use mathlib.Core.Path.{◌≡◌}
+use lib.ListN.{drop}
 use Rattle.parts.specs.Parts.{packet_at, packet_bytes}
 use Rattle.bits.specs.Over.{part}
-use Rattle.bits.proofs.Overs.{length_part, get_or-part}
 use Rattle.broken.specs.Broken.{lowest, clear_from}
-use Rattle.block_found.specs.Found.{found_told}
-use Rattle.block_found.proofs.Firsts.{clear-found, clear_next, clear_end}
-use borrow.Author.Rules.{rules}
 use Rattle.block_found.proofs.bits_past.Given as goal
 
 abbrev pub invariant-loop-i : goal.invariant-loop-i

@@ -1,5 +1,4 @@
 -- Nothing is higher than any byte.
-use borrow.Author.Rules.{rules}
 use Rattle.broken.specs.Broken.{lower}
 use Rattle.block_found.specs.Found.{found_told}
 use Rattle.block_found.proofs.lower.Goals as goal

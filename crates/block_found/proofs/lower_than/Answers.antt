@@ -1,5 +1,4 @@
 -- The lower of two bytes, or the one that there is.
-use borrow.Author.Rules.{rules}
 use native.Mathlib.Omega.{arith}
 use mathlib.Core.Path.{ap}
 use mathlib.Core.Option.{some}

@@ -7,7 +7,6 @@ use Rattle.bits.specs.Over.{part}
 use Rattle.bits.proofs.Overs.{length_part}
 use Rattle.block_found.specs.Found.{found_told}
 use Rattle.block_found.proofs.Firsts.{set-at, set-not}
-use borrow.Author.Rules.{rules}
 use Rattle.block_found.proofs.set_in.Goals as goal
 
 pub returns-then-n-to : goal.returns-then-n-to

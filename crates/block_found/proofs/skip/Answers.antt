@@ -1,12 +1,8 @@
 -- Each step stays before what is looked for, and the one that does not is the last.
-use Prim.Native.Nat.{◌+◌, ◌-◌, ◌≤◌}
+use Prim.Native.Nat.{◌+◌, ◌-◌}
 use mathlib.Core.Path.{sym, ◌∙◌}
 use native.Mathlib.Omega.{arith}
-use borrow.Author.Tests.{not-true, not-false}
-use lib.ListN.{length}
-use Rattle.block_found.specs.Found.{first_set}
 use Rattle.block_found.proofs.Sets.{set-short, not_in, is_in}
-use borrow.Author.Rules.{rules}
 use Rattle.block_found.proofs.skip.Goals as goal
 
 pub loop-at-init : goal.loop-at-init

@@ -1,11 +1,6 @@
-use Prim.Native.Nat.{◌+◌, ◌-◌, ◌≤◌}
-use mathlib.Core.Path.{sym, ◌∙◌}
-use native.Mathlib.Omega.{arith}
-use borrow.Author.Tests.{not-true, not-false}
+use Prim.Native.Nat.{◌-◌, ◌≤◌}
 use lib.ListN.{length}
 use Rattle.block_found.specs.Found.{first_set}
-use Rattle.block_found.proofs.Sets.{set-short, not_in, is_in}
-use borrow.Author.Rules.{rules}
 use Rattle.block_found.proofs.skip.Given as goal
 
 abbrev pub invariant-loop-at : goal.invariant-loop-at

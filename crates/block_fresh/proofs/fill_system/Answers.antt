@@ -1,10 +1,9 @@
 -- After i turns there are i palettes, and past them what was there.
-use borrow.Author.Rules.{rules}
-use mathlib.Core.List.{List, [], ◌∷◌, ◌++◌, append-nil}
+use mathlib.Core.List.{List, ◌++◌, append-nil}
 use mathlib.Core.Path.{◌≡◌, ◌∙◌, ap, refl, sym}
-use Prim.Native.Nat.{ℕ, ◌≤◌, ◌-◌, ◌*◌}
+use Prim.Native.Nat.{ℕ, ◌≤◌, ◌*◌}
 use native.Mathlib.Omega.{arith}
-use lib.ListN.{drop_of_length-le, length, drop}
+use lib.ListN.{drop_of_length-le, length}
 use Rattle.parts.specs.Parts.{system_bytes}
 use Rattle.bits.proofs.Overs.{length_over}
 use Rattle.bits.specs.Over.{over}

@@ -1,14 +1,9 @@
-use borrow.Author.Rules.{rules}
-use mathlib.Core.List.{List, [], ◌∷◌, ◌++◌, append-nil}
-use mathlib.Core.Path.{◌≡◌, ◌∙◌, ap, refl, sym}
+use mathlib.Core.List.{List, [], ◌∷◌, ◌++◌}
+use mathlib.Core.Path.{◌≡◌}
 use Prim.Native.Nat.{ℕ, ◌≤◌, ◌-◌, ◌*◌}
-use native.Mathlib.Omega.{arith}
-use lib.ListN.{drop_of_length-le, length, drop}
+use lib.ListN.{length, drop}
 use Rattle.parts.specs.Parts.{system_bytes}
-use Rattle.bits.proofs.Overs.{length_over}
-use Rattle.bits.specs.Over.{over}
 use Rattle.layout.specs.Fresh.{times, word_bytes}
-use Rattle.block_fresh.proofs.Made.{fill_none, fill_turn}
 use Rattle.block_fresh.proofs.fill_system.Given as goal
 
 abbrev pub palette : List ℕ

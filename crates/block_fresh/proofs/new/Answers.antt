@@ -1,5 +1,4 @@
 -- Zeros, with the preset, the system palettes and byte 9 in their places, are the block of the fresh unit.
-use borrow.Author.Rules.{rules}
 use mathlib.Core.List.{List, [], ◌∷◌}
 use mathlib.Core.Path.{sym, ap, ◌∙◌}
 use Prim.Native.Nat.{ℕ}

@@ -1,5 +1,4 @@
 -- The new block, with bytes 3 and 4 set.
-use borrow.Author.Rules.{rules}
 use mathlib.Core.List.{List}
 use mathlib.Core.Path.{ap, ◌∙◌}
 use Prim.Native.Nat.{ℕ}

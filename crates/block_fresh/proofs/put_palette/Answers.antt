@@ -1,5 +1,4 @@
 -- Eight stores in a row are the eight bytes of the four words.
-use borrow.Author.Rules.{rules}
 use mathlib.Core.Path.{◌∙◌}
 use native.Mathlib.Omega.{arith}
 use lib.ListN.{length-set}

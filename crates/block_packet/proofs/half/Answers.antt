@@ -1,5 +1,4 @@
 -- The number of the eight bytes is that of the part.
-use borrow.Author.Rules.{rules}
 use mathlib.Core.Path.{◌∙◌}
 use Rattle.block_packet.proofs.Halves.{value_eight}
 use Rattle.block_packet.proofs.half.Goals as goal

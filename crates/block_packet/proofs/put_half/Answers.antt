@@ -1,5 +1,4 @@
 -- Eight stores in a row are the word's eight bytes.
-use borrow.Author.Rules.{rules}
 use Prim.Native.Nat.{◌/◌, ◌^◌}
 use native.Mathlib.Omega.{arith}
 use lib.Bits.{mask_lt}

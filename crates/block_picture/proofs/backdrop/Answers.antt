@@ -1,5 +1,4 @@
 -- The parts lent are the unit's.
-use borrow.Author.Rules.{rules}
 use mathlib.Core.Path.{◌∙◌}
 use Rattle.screen.specs.Colours.{backdrop_of}
 use Rattle.block_picture.specs.Drawn.{backdrop_in}

@@ -1,5 +1,4 @@
 -- The parts lent are the unit's.
-use borrow.Author.Rules.{rules}
 use mathlib.Core.Path.{◌∙◌}
 use Rattle.border.specs.Border.{border_at}
 use Rattle.block_picture.specs.Drawn.{border_in}

@@ -1,5 +1,4 @@
 -- The parts lent are the unit's, so the picture drawn from its tables is the unit's (`picture-is`).
-use borrow.Author.Rules.{rules}
 use Rattle.picture.proofs.Whole.{tables-are, picture-is}
 use Rattle.layout.specs.Block.{load}
 use Rattle.block_picture.specs.Drawn.{parts_of, picture_drawn}

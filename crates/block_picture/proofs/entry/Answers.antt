@@ -1,5 +1,4 @@
 -- The map lent is the unit's.
-use borrow.Author.Rules.{rules}
 use mathlib.Core.Path.{◌∙◌}
 use Rattle.border.specs.Border.{entry_at}
 use Rattle.block_picture.proofs.entry.Goals as goal

@@ -1,5 +1,4 @@
 -- The parts lent are the unit's, so the row drawn from its tables is the unit's (`row_is`).
-use borrow.Author.Rules.{rules}
 use Rattle.picture.proofs.Whole.{tables-are, row_is}
 use Rattle.layout.specs.Block.{load}
 use Rattle.block_picture.specs.Drawn.{parts_of, row_drawn}

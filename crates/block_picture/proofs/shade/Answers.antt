@@ -1,5 +1,4 @@
 -- The parts lent are the unit's, and the shade is the byte.
-use borrow.Author.Rules.{rules}
 use mathlib.Core.Path.{◌∙◌}
 use Rattle.screen.specs.Colours.{colour_at}
 use Rattle.block_picture.specs.Drawn.{shade_in}

@@ -1,5 +1,4 @@
 -- The parts lent are the unit's.
-use borrow.Author.Rules.{rules}
 use Rattle.picture.proofs.Whole.{tables_of}
 use Rattle.layout.specs.Block.{load}
 use Rattle.block_picture.specs.Drawn.{parts_of}

@@ -1,6 +1,5 @@
 -- `block_plain::attr_blk` meets its contract: the map that comes back is the one part that changes.
 use mathlib.Core.Path.{refl}
-use borrow.Author.Rules.{rules}
 use Rattle.commands.specs.Command.{attr_blk}
 use Rattle.commands.specs.Maps as maps
 use Rattle.commands.proofs.Sizes.{length_attr_blk}

@@ -6,7 +6,6 @@ use native.Mathlib.Omega.{arith}
 use lib.ListN.{set, length-set}
 use Rattle.parts.specs.Parts.{preset_on_at, preset_at, preset_bytes}
 use Rattle.block_plain.proofs.Carried.{fits, cleared, cleared-long}
-use borrow.Author.Rules.{rules}
 use Rattle.block_plain.proofs.end_preset.Goals as goal
 
 pub slice_bounds-clear-end : goal.slice_bounds-clear-end

@@ -5,7 +5,6 @@ use Prim.Native.Nat.{◌+◌}
 use lib.ListN.{set, length-set}
 use Rattle.parts.specs.Parts.{mask_at, frozen_on_at, capture_bytes, frozen_at, tiles_at}
 use Rattle.block_plain.proofs.Carried.{fits, cleared, cleared-long, mask-dropped}
-use borrow.Author.Rules.{rules}
 use Rattle.block_plain.proofs.mask_en.Goals as goal
 
 pub slice_bounds-clear-end : goal.slice_bounds-clear-end

@@ -1,6 +1,5 @@
 -- Two bytes of the header are the pads.
 use Rattle.block_plain.proofs.Carried.{pads-changed}
-use borrow.Author.Rules.{rules}
 use Rattle.block_plain.proofs.mlt_req.Goals as goal
 
 pub returns : goal.returns

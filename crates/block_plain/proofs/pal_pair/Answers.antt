@@ -1,6 +1,5 @@
 -- The palettes that come back go into the block whose preset has ended.
 use Rattle.block_plain.proofs.Carried.{pair_put}
-use borrow.Author.Rules.{rules}
 use Rattle.block_plain.proofs.pal_pair.Goals as goal
 
 pub returns : goal.returns

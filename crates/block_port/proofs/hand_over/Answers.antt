@@ -1,9 +1,7 @@
 -- By whether a command is complete: then its bytes go on, and the store is cleared.
 use mathlib.Core.Path.{◌∙◌}
 use native.Mathlib.Nat.{sub-zero}
-use Prim.Native.Nat.{◌-◌}
 use Rattle.block_port.proofs.Steps.{none_over, one-settled, one-handed}
-use borrow.Author.Rules.{rules}
 use Rattle.bits.proofs.Named.{as-store_after-command_after}
 use Rattle.block_port.proofs.hand_over.Goals as goal
 

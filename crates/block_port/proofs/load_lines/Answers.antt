@@ -1,5 +1,4 @@
 -- The three bytes are the unit's.
-use borrow.Author.Rules.{rules}
 use mathlib.Core.Path.{refl}
 use Rattle.layout.specs.Block.{load}
 use Rattle.block_port.specs.Bytes.{lines_of}

@@ -1,5 +1,4 @@
 -- Field by field; two words are the number of the packet's sixteen bytes.
-use borrow.Author.Rules.{rules}
 use native.Mathlib.Omega.{arith}
 use Rattle.layout.specs.Block.{load}
 use Rattle.block_packet.proofs.Halves.{value-words}

@@ -1,5 +1,4 @@
 -- Three stores.
-use borrow.Author.Rules.{rules}
 use Rattle.block_port.specs.Bytes.{put_lines}
 use Rattle.block_port.proofs.save_lines.Goals as goal
 

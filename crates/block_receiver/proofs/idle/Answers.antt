@@ -1,6 +1,5 @@
 -- Each test of that row of V3 (RULES 1.8) in turn; the packet's number is 0 if its bytes are.
-use borrow.Author.Rules.{rules}
-use borrow.Author.Tests.{eq-eqb, ne_eqb, not-true, not-false}
+use borrow.Author.Tests.{eq-eqb, ne_eqb}
 use mathlib.Core.Path.{sym, ◌∙◌}
 use Rattle.layout.specs.Block.{load}
 use Rattle.receiver.specs.Valid.{v3_at}

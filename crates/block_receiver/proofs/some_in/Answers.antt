@@ -1,5 +1,4 @@
 -- Each test of that row of V3 (RULES 1.8) in turn; the store's parts are parts of the block.
-use borrow.Author.Rules.{rules}
 use borrow.Author.Tests.{eq-eqb, ne_eqb, le-leb, lt-leb, lt-ltb, le-ltb}
 use mathlib.Core.Path.{sym, ◌∙◌, ap}
 use Prim.Native.Nat.{◌*◌}

@@ -1,5 +1,4 @@
 -- The stage's number picks the row of V3 (RULES 1.8); a lent block is bytes.
-use borrow.Author.Rules.{rules}
 use borrow.Author.Tests.{lt-leb}
 use native.Mathlib.Omega.{arith}
 use lib.ListN.{get_or}

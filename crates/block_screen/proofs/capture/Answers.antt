@@ -1,6 +1,5 @@
 -- The two bytes are counted down, and the screen is put in.
 use Rattle.block_screen.proofs.Landings.{captured-put}
-use borrow.Author.Rules.{rules}
 use Rattle.block_screen.proofs.capture.Goals as goal
 
 pub returns : goal.returns

@@ -4,7 +4,6 @@ use Rattle.transfer.specs.Pending as pending
 use Rattle.layout.specs.Block.{load}
 use Rattle.rules.specs.Screen.{landing}
 use Rattle.block_screen.proofs.Landings.{counted-down}
-use borrow.Author.Rules.{rules}
 use Rattle.block_screen.proofs.count_down.Goals as goal
 
 pub returns : goal.returns

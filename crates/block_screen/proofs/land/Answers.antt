@@ -1,7 +1,6 @@
 -- Nothing leaves the block as it is, and a page goes to its part.
 use mathlib.Core.Path.{◌∙◌}
 use Rattle.block_screen.proofs.Landings.{nothing-landed}
-use borrow.Author.Rules.{rules}
 use Rattle.block_screen.proofs.land.Goals as goal
 
 pub returns-in-Nothing : goal.returns-in-Nothing

@@ -1,7 +1,6 @@
 -- The half that comes back is the one part that changes.
 use mathlib.Core.Path.{◌∙◌}
 use Rattle.block_screen.proofs.Landings.{lower-landed, upper-landed}
-use borrow.Author.Rules.{rules}
 use Rattle.block_screen.proofs.land_half.Goals as goal
 
 pub returns-then-upper_half : goal.returns-then-upper_half

@@ -4,7 +4,6 @@ use native.Mathlib.Omega.{arith}
 use Rattle.parts.specs.Parts.{border_map_at, border_bytes}
 use Rattle.bits.proofs.Overs.{length_part}
 use Rattle.block_screen.proofs.Landings.{palettes-landed, files-landed, border-landed}
-use borrow.Author.Rules.{rules}
 use Rattle.block_screen.proofs.land_page.Goals as goal
 
 pub land_map-requires : goal.land_map-requires

@@ -1,6 +1,5 @@
 -- The block that the capture leaves is valid, and what lands goes into it.
 use Rattle.block_screen.proofs.Landings.{captured-valid, all_shown}
-use borrow.Author.Rules.{rules}
 use Rattle.block_screen.proofs.show.Goals as goal
 
 pub land-requires : goal.land-requires

@@ -1,5 +1,4 @@
 -- Each test of V1 as the code makes it, in the definition's order.
-use borrow.Author.Rules.{rules}
 use borrow.Author.Tests.{le-leb, lt-leb}
 use Rattle.layout.specs.Valid.{v1}
 use Rattle.block_valid.proofs.v1.Goals as goal

@@ -1,6 +1,5 @@
 -- Each test of V2 as the code makes it, in the definition's order.
-use borrow.Author.Rules.{rules}
-use borrow.Author.Tests.{le-leb, lt-leb, not-true, not-false}
+use borrow.Author.Tests.{le-leb, lt-leb}
 use mathlib.Core.Path.{sym, ◌∙◌}
 use Rattle.layout.specs.Valid.{v2}
 use Rattle.block_valid.proofs.v2.Goals as goal

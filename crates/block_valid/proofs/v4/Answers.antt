@@ -1,5 +1,4 @@
 -- A countdown of 0 leaves the first half of the rule, any other the second.
-use borrow.Author.Rules.{rules}
 use borrow.Author.Tests.{eq-eqb, ne_eqb, le-leb, lt-leb}
 use mathlib.Core.Path.{sym}
 use native.Mathlib.Omega.{arith}

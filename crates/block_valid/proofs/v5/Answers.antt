@@ -1,5 +1,4 @@
 -- The preset's bytes are looked at exactly if byte 9 is 0.
-use borrow.Author.Rules.{rules}
 use borrow.Author.Tests.{eq-eqb, ne_eqb}
 use Rattle.layout.specs.Valid.{v5}
 use Rattle.block_valid.proofs.v5.Goals as goal

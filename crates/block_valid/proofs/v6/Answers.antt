@@ -1,6 +1,5 @@
 -- Whether the mask allows it, and the frozen capture's bytes exactly if byte 12 is 0.
-use borrow.Author.Rules.{rules}
-use borrow.Author.Tests.{eq-eqb, ne_eqb, not-true, not-false}
+use borrow.Author.Tests.{eq-eqb, ne_eqb}
 use mathlib.Core.Path.{sym, ◌∙◌}
 use Rattle.layout.specs.Valid.{v6}
 use Rattle.block_valid.proofs.v6.Goals as goal

@@ -5,7 +5,6 @@ use mathlib.Core.Option.{Option}
 use Prim.Native.Nat.{ℕ}
 use Rattle.block_port.specs.Bytes.{handed}
 use Rattle.block_writes.proofs.Blocks.{played-at, played-packets, played-none, played-told, played-one, ran-valid}
-use borrow.Author.Rules.{rules}
 use Rattle.block_writes.proofs.play.Goals as goal
 
 pub returns-then-n-eq0 : goal.returns-then-n-eq0

@@ -4,7 +4,6 @@ use Rattle.receiver_run.specs.Run.{Ended}
 use Rattle.block_port.specs.Bytes.{handed}
 use Rattle.block_writes.specs.Ran.{command_of}
 use Rattle.block_writes.proofs.Blocks.{loaded-ready, loaded-runs, put-long, receiver-long, ran}
-use borrow.Author.Rules.{rules}
 use Rattle.block_writes.proofs.play_port.Goals as goal
 
 pub run_on-r-requires : goal.run_on-r-requires

@@ -1,6 +1,5 @@
 -- The run, and then what it completed goes on.
 use Rattle.block_writes.proofs.Blocks.{run-few, run-handed}
-use borrow.Author.Rules.{rules}
 use Rattle.bits.proofs.Named.{as-store_after-command_after}
 use Rattle.block_writes.proofs.run_on.Goals as goal
 

@@ -1,6 +1,5 @@
 -- One write is writes in a row of which there is one (`played-write`).
 use mathlib.Core.Path.{◌∙◌, ap}
-use borrow.Author.Rules.{rules}
 use Rattle.block_port.specs.Bytes.{handed, packets_told}
 use Rattle.layout.specs.Block.{load, save}
 use Rattle.block_writes.specs.Play.{Played}

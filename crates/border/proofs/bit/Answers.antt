@@ -2,7 +2,6 @@
 use Prim.Native.Nat.{ℕ, ◌/◌, ◌%◌, ◌^◌}
 use mathlib.Core.Path.{ap, ◌∙◌}
 use lib.Bits.{and_mask, mask_lt}
-use borrow.Author.Rules.{rules}
 use Rattle.bits.specs.Bit.{bit_at}
 use Rattle.border.proofs.bit.Goals as goal
 

@@ -1,6 +1,5 @@
 -- The answer follows from the word and its index (`is-transparent`, `is-opaque`).
 use Prim.Native.Nat.{◌%◌}
-use borrow.Author.Rules.{rules}
 use Rattle.border.specs.Border.{colour_of}
 use Rattle.border.proofs.Entries.{is-transparent, is-opaque, shown-drawn}
 use Rattle.border.proofs.color_at.Goals as goal

@@ -1,6 +1,5 @@
 -- Each test decides as the definition's does (proofs/Entries).
 use mathlib.Core.Path.{sym}
-use borrow.Author.Rules.{rules}
 use Rattle.border.proofs.Entries.{far-tile, low-palette, last_test}
 use Rattle.border.proofs.draws.Goals as goal
 

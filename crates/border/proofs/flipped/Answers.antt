@@ -1,6 +1,5 @@
 -- The flip, in either branch.
 use native.Mathlib.Omega.{arith}
-use borrow.Author.Rules.{rules}
 use Rattle.border.specs.Border.{flipped}
 use Rattle.border.proofs.flipped.Goals as goal
 

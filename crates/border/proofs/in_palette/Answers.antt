@@ -1,7 +1,6 @@
 -- A word that draws has palette 4, 5 or 6, so the place is within the 96 bytes.
 use mathlib.Core.Path.{◌∙◌}
 use native.Mathlib.Omega.{arith}
-use borrow.Author.Rules.{rules}
 use Rattle.bits.specs.Word.{word_at}
 use Rattle.border.specs.Border.{in_palette}
 use Rattle.border.proofs.Entries.{drawn-palette}

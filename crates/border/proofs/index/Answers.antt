@@ -4,7 +4,6 @@ use mathlib.Core.Bool.{Bool}
 use mathlib.Core.Path.{sym, ap, ◌∙◌}
 use native.Mathlib.Omega.{arith}
 use lib.ListN.{length}
-use borrow.Author.Rules.{rules}
 use Rattle.border.specs.Border.{flipped}
 use Rattle.border.proofs.Entries.{no_index, drawn-tile, tile-long, an-index}
 use Rattle.border.proofs.index.Goals as goal

@@ -1,7 +1,6 @@
 -- The four bits are read where the definition has them; each is below 2.
 use Prim.Native.Nat.{◌+◌, ◌*◌}
 use native.Mathlib.Omega.{arith}
-use borrow.Author.Rules.{rules}
 use Rattle.border.specs.Tile.{index_in}
 use Rattle.border.proofs.index_in.Goals as goal
 

@@ -1,5 +1,4 @@
 -- The word of the two bytes at that place.
-use borrow.Author.Rules.{rules}
 use Rattle.bits.specs.Word.{word_at}
 use Rattle.border.specs.Border.{entry_at}
 use Rattle.border.proofs.map_entry.Goals as goal

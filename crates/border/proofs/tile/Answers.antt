@@ -2,7 +2,6 @@
 use mathlib.Core.Path.{refl}
 use native.Mathlib.Nat.{add-sub_cancel_left}
 use borrow.Author.Tests.{eq-eqb, ne_eqb, le-leb, lt-leb}
-use borrow.Author.Rules.{rules}
 use Rattle.parts.specs.Parts.{tiles_bytes}
 use Rattle.border.specs.Tile.{tile_part}
 use Rattle.border.proofs.tile.Goals as goal

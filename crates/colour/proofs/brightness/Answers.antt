@@ -1,5 +1,4 @@
 -- `colour::brightness` meets its contract: its table is the ramp, entry for entry.
-use borrow.Author.Rules.{rules}
 use mathlib.Core.Path.{refl}
 use Rattle.colour.specs.Colour.{gamma_ramp, ramp}
 use Rattle.colour.proofs.brightness.Goals as goal

@@ -1,5 +1,4 @@
 -- Each case is its own.
-use borrow.Author.Rules.{rules}
 use mathlib.Core.Path.{ap, ◌∙◌}
 use Rattle.transfer.specs.Pending.{landed_of}
 use Rattle.export_answers.specs.Coded.{value, optional}

@@ -1,5 +1,4 @@
 -- Each case is its own; a line has at most as many writes as a screen has bytes, as is asked.
-use borrow.Author.Rules.{rules}
 use native.Mathlib.Omega.{arith}
 use mathlib.Core.Path.{ap}
 use lib.Dec.{lit<}

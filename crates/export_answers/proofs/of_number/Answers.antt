@@ -1,5 +1,4 @@
 -- Each case is its own; the number fits, as is asked.
-use borrow.Author.Rules.{rules}
 use mathlib.Core.Path.{ap}
 use native.Mathlib.Omega.{arith}
 use Rattle.view.specs.Answers.{number_told}

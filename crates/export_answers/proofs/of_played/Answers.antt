@@ -1,5 +1,4 @@
 -- Each case is its own; the numbers fit, as is asked.
-use borrow.Author.Rules.{rules}
 use mathlib.Core.Path.{ap}
 use lib.Dec.{lit<}
 use Rattle.unit.specs.Answers.{played_told}

@@ -1,5 +1,4 @@
 -- Each case is its own.
-use borrow.Author.Rules.{rules}
 use Rattle.unit.specs.Answers.{shown_told}
 use Rattle.export_answers.specs.Coded.{coded}
 use Rattle.export_answers.proofs.of_shown.Goals as goal

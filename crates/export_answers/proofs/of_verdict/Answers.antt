@@ -1,5 +1,4 @@
 -- Each case is its own.
-use borrow.Author.Rules.{rules}
 use Rattle.pulses.specs.Answer.{verdict_answer}
 use Rattle.export_answers.specs.Coded.{coded, truth}
 use Rattle.export_answers.proofs.of_verdict.Goals as goal

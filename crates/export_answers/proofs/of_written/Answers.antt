@@ -1,5 +1,4 @@
 -- Each case is its own.
-use borrow.Author.Rules.{rules}
 use Rattle.unit.specs.Answers.{written_told}
 use Rattle.export_answers.specs.Coded.{coded, optional}
 use Rattle.export_answers.proofs.of_written.Goals as goal

@@ -1,6 +1,5 @@
 -- `hex::capital` meets its contract: the test is the definition's.
 use mathlib.Core.Path.{sym}
-use borrow.Author.Rules.{rules}
 use borrow.Author.Tests.{lt-ltb, le-ltb}
 use Rattle.hex_digits.specs.Hex.{capital}
 use Rattle.hex_digits.proofs.capital.Goals as goal

@@ -1,9 +1,9 @@
 -- `hex::decode` meets its contract: after i turns the first i bytes stand in their places, and every digit is one.
-use Prim.Native.Nat.{◌+◌, ◌-◌, ◌*◌, ◌≤◌}
+use Prim.Native.Nat.{◌+◌, ◌*◌}
 use mathlib.Core.Path.{◌≡◌, ◌∙◌}
 use native.Mathlib.Omega.{arith}
 use lib.ListN.{length, length-set}
-use lib.Seq.{paste, paste-zero}
+use lib.Seq.{paste-zero}
 use Rattle.bits.proofs.Overs.{paste-over}
 use Rattle.hex_digits.specs.Hex.{spelled}
 use Rattle.hex_digits.proofs.Reading.{digit_at, length-spelled, decode_turn}

@@ -1,11 +1,8 @@
-use Prim.Native.Nat.{◌+◌, ◌-◌, ◌*◌, ◌≤◌}
-use mathlib.Core.Path.{◌≡◌, ◌∙◌}
-use native.Mathlib.Omega.{arith}
-use lib.ListN.{length, length-set}
-use lib.Seq.{paste, paste-zero}
-use Rattle.bits.proofs.Overs.{paste-over}
+use Prim.Native.Nat.{◌-◌, ◌≤◌}
+use mathlib.Core.Path.{◌≡◌}
+use lib.ListN.{length}
+use lib.Seq.{paste}
 use Rattle.hex_digits.specs.Hex.{spelled}
-use Rattle.hex_digits.proofs.Reading.{digit_at, length-spelled, decode_turn}
 use Rattle.hex_digits.proofs.decode.Given as goal
 
 abbrev pub invariant-loop-i : goal.invariant-loop-i

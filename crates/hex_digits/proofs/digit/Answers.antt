@@ -1,6 +1,5 @@
 -- `hex::digit` meets its contract: its masks and tests are tried at every byte.
 use mathlib.Core.Path.{sym, ◌∙◌}
-use borrow.Author.Rules.{rules}
 use borrow.Author.Tests.{lt-ltb, le-ltb, eq-eqb, ne_eqb}
 use native.Mathlib.Omega.{arith}
 use Rattle.hex_digits.proofs.Digits.{masked, masked_is}

@@ -1,10 +1,8 @@
 -- `hex::spell` meets its contract: after i turns the first i bytes are spelled out.
-use Prim.Native.Nat.{◌-◌, ◌*◌, ◌≤◌}
 use mathlib.Core.Path.{◌≡◌, sym, ◌∙◌}
 use native.Mathlib.Omega.{arith}
-use lib.ListN.{length, take, take-append-drop}
+use lib.ListN.{length, take-append-drop}
 use lib.Seq.{take-length}
-use Rattle.bits.specs.Over.{over}
 use Rattle.hex_digits.specs.Hex.{hex_text}
 use Rattle.hex_digits.proofs.Writing.{spell_turn}
 use Rattle.hex_digits.proofs.spell.Goals as goal

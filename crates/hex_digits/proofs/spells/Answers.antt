@@ -1,11 +1,9 @@
 -- `hex::spells` meets its contract: all digits passed are below 16 exactly if their OR is, and an odd number of them spells nothing.
-use Prim.Native.Nat.{◌-◌, ◌/◌, ◌≤◌}
-use mathlib.Core.Bool.{◌&&◌}
-use mathlib.Core.Path.{◌≡◌, refl, sym, ◌∙◌}
+use Prim.Native.Nat.{◌/◌}
+use mathlib.Core.Path.{refl, sym, ◌∙◌}
 use native.Mathlib.Omega.{arith}
-use lib.Dec.{ltb}
-use lib.ListN.{length, drop}
-use Rattle.hex_digits.proofs.Reading.{all_digits, even-spells, odd-spells, digits_turn, digits_end}
+use lib.ListN.{length}
+use Rattle.hex_digits.proofs.Reading.{even-spells, odd-spells, digits_turn, digits_end}
 use Rattle.hex_digits.proofs.spells.Goals as goal
 
 pub returns-then-text-eq1 : goal.returns-then-text-eq1

@@ -1,10 +1,9 @@
-use Prim.Native.Nat.{◌-◌, ◌/◌, ◌≤◌}
+use Prim.Native.Nat.{◌-◌, ◌≤◌}
 use mathlib.Core.Bool.{◌&&◌}
-use mathlib.Core.Path.{◌≡◌, refl, sym, ◌∙◌}
-use native.Mathlib.Omega.{arith}
+use mathlib.Core.Path.{◌≡◌}
 use lib.Dec.{ltb}
 use lib.ListN.{length, drop}
-use Rattle.hex_digits.proofs.Reading.{all_digits, even-spells, odd-spells, digits_turn, digits_end}
+use Rattle.hex_digits.proofs.Reading.{all_digits}
 use Rattle.hex_digits.proofs.spells.Given as goal
 
 abbrev pub invariant-loop-i : goal.invariant-loop-i

@@ -2,7 +2,6 @@
 use Prim.Native.Nat.{◌/◌}
 use mathlib.Core.Path.{ap, ◌∙◌}
 use native.Mathlib.Omega.{arith}
-use borrow.Author.Rules.{rules}
 use lib.Bits.{and_le_r}
 use Rattle.hex_digits.proofs.Digits.{values, joined, joined_small, joined_is}
 use Rattle.hex_digits.proofs.two_digits.Goals as goal

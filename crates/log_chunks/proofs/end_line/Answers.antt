@@ -5,7 +5,6 @@ use Prim.Native.Nat.{◌-◌}
 use native.Mathlib.Omega.{arith}
 use Rattle.log_chunks.specs.Steps.{desk}
 use Rattle.log_chunks.proofs.Coded.{ended-long, parsed-refused, parsed-writes, parsed-screen}
-use borrow.Author.Rules.{rules}
 use Rattle.bits.proofs.Named.{as-value-block_after-bytes_after}
 use Rattle.log_chunks.proofs.end_line.Goals as goal
 

@@ -1,10 +1,10 @@
 -- A turn is a step; what is left falls with it.
-use mathlib.Core.Path.{◌≡◌, refl, sym, ap, ◌∙◌}
+use mathlib.Core.Path.{refl, sym, ap, ◌∙◌}
 use native.Mathlib.Omega.{arith}
 use lib.ListN.{length}
-use Rattle.log_chunks.specs.Steps.{desk, left, goes_on}
+use Rattle.log_chunks.specs.Steps.{desk, goes_on}
 use Rattle.log_chunks.proofs.Fills.{goes-room}
-use Rattle.log_chunks.proofs.Turns.{Turn, begins, turns, less, ends}
+use Rattle.log_chunks.proofs.Turns.{begins, turns, less, ends}
 use Rattle.log_chunks.proofs.fill.Goals as goal
 
 pub loop-block-init : goal.loop-block-init

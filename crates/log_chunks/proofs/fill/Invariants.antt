@@ -1,9 +1,7 @@
-use mathlib.Core.Path.{◌≡◌, refl, sym, ap, ◌∙◌}
-use native.Mathlib.Omega.{arith}
+use mathlib.Core.Path.{◌≡◌}
 use lib.ListN.{length}
-use Rattle.log_chunks.specs.Steps.{desk, left, goes_on}
-use Rattle.log_chunks.proofs.Fills.{goes-room}
-use Rattle.log_chunks.proofs.Turns.{Turn, begins, turns, less, ends}
+use Rattle.log_chunks.specs.Steps.{desk, left}
+use Rattle.log_chunks.proofs.Turns.{Turn}
 use Rattle.log_chunks.proofs.fill.Given as goal
 
 abbrev pub invariant-loop-block : goal.invariant-loop-block

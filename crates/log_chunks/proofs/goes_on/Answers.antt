@@ -1,6 +1,5 @@
 -- By the three tests.
 use Rattle.log_chunks.proofs.Coded.{stops-refused, stops-full, goes-if}
-use borrow.Author.Rules.{rules}
 use Rattle.log_chunks.proofs.goes_on.Goals as goal
 
 pub returns-then-so_far : goal.returns-then-so_far

@@ -4,7 +4,6 @@ use native.Mathlib.Omega.{arith}
 use lib.ListN.{length}
 use Rattle.log_chunks.specs.Texts.{head_line}
 use Rattle.log_chunks.proofs.Coded.{head-short}
-use borrow.Author.Rules.{rules}
 use Rattle.bits.proofs.Named.{as-value-out_after}
 use Rattle.log_chunks.proofs.head_line.Goals as goal
 

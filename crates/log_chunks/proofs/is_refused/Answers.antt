@@ -1,6 +1,5 @@
 -- By what is told.
 use Rattle.log_chunks.proofs.Stepping.{refused-not, refused_no, refused_yes}
-use borrow.Author.Rules.{rules}
 use Rattle.log_chunks.proofs.is_refused.Goals as goal
 
 pub returns-in-Nothing : goal.returns-in-Nothing

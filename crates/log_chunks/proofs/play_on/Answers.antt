@@ -2,7 +2,6 @@
 use native.Mathlib.Omega.{arith}
 use Rattle.log_chunks.specs.Steps.{ran_on, played_to, pending}
 use Rattle.log_chunks.proofs.Coded.{played-within, played-answer}
-use borrow.Author.Rules.{rules}
 use Rattle.log_chunks.proofs.play_on.Goals as goal
 
 pub overflow_add-result : goal.overflow_add-result

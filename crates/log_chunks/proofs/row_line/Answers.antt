@@ -1,7 +1,6 @@
 -- The words are the row's, and the text is that of the words.
 use native.Mathlib.Omega.{arith}
 use Rattle.log_chunks.proofs.Coded.{row_words, row_text, row-long}
-use borrow.Author.Rules.{rules}
 use Rattle.log_chunks.proofs.row_line.Goals as goal
 
 pub row_from-requires : goal.row_from-requires

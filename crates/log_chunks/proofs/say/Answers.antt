@@ -9,7 +9,6 @@ use Rattle.log_chunks.specs.Steps.{desk, ToldFits}
 use Rattle.log_chunks.specs.declared.Step.{Step}
 use Rattle.log_chunks.proofs.Keeps.{step_keeps}
 use Rattle.log_chunks.proofs.Stepping.{said, step-told}
-use borrow.Author.Rules.{rules}
 use Rattle.log_chunks.proofs.say.Goals as goal
 
 pub tell-n-requires : goal.tell-n-requires

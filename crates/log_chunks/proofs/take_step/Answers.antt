@@ -7,7 +7,6 @@ use Rattle.log_line.specs.declared.lines.Taken.{Taken}
 use Rattle.log_line.proofs.Splitting.{length-took}
 use native.Mathlib.Omega.{arith}
 use Rattle.log_chunks.proofs.Stepping.{step-played, step-ended, step-held, taken-fits}
-use borrow.Author.Rules.{rules}
 use Rattle.bits.proofs.Named.{as-value-block_after-line_after-bytes_after-command_after}
 use Rattle.log_chunks.proofs.take_step.Goals as goal
 

@@ -2,7 +2,6 @@
 use mathlib.Core.Path.{refl}
 use native.Mathlib.Omega.{arith}
 use Rattle.log_chunks.proofs.Coded.{told-few, tells-nothing, tells-command, tells-refused}
-use borrow.Author.Rules.{rules}
 use Rattle.log_chunks.proofs.tell.Goals as goal
 
 pub tell_command-requires : goal.tell_command-requires

@@ -6,7 +6,6 @@ use lib.ListN.{length, take}
 use Rattle.bits.specs.Over.{over}
 use Rattle.log_text.specs.Text.{hex_line}
 use Rattle.log_chunks.proofs.Coded.{hex-short}
-use borrow.Author.Rules.{rules}
 use Rattle.log_chunks.proofs.tell_command.Goals as goal
 
 pub returns : goal.returns

@@ -1,15 +1,11 @@
 -- `log_line::kind_of` meets its contract: its tests are those of the form, in their order.
-use Prim.Native.Nat.{ℕ, ◌≤◌}
 use mathlib.Core.Bool.{true}
-use mathlib.Core.Path.{◌≡◌, ap, sym, ◌∙◌}
-use mathlib.Core.List.{List}
+use mathlib.Core.Path.{ap, sym, ◌∙◌}
 use native.Mathlib.Omega.{arith}
-use borrow.Author.Tests.{not-true, not-false}
-use lib.ListN.{length}
 use Rattle.hex_digits.specs.Hex.{spells}
 use Rattle.hex_digits.proofs.Reading.{digit_at}
 use Rattle.log_line.specs.Calls.{kind_told}
-use Rattle.log_line.proofs.Form.{kind_byte, too_short, refused_too_long, not-spelled, some-writes, a-screen, short-screen, other-kind}
+use Rattle.log_line.proofs.Form.{too_short, refused_too_long, not-spelled, some-writes, a-screen, short-screen, other-kind}
 use Rattle.log_line.proofs.kind_of.Goals as goal
 
 pub returns-then-text-lt2 : goal.returns-then-text-lt2

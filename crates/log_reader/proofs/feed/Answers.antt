@@ -57,8 +57,11 @@ returns-then-not-is_well c =
     let w = c.told-state in
     let p = point args.start (desk args.block.now args.line.now args.bytes.now args.command.now) args.tally.now in
     let q = point a.reading (desk a.block a.line a.bytes a.command) a.tally in
-    record { kept = filled-kept args.quiet p q args.chunk.now a.at a.out f.result _ _ a.invariant.0 f.ensures w.result; stands = stands_ill args.quiet p args.chunk.now f.result.at w.result _ (sym c.is_well.ensures ∙ not-true c.is_well.result c.if-not-is_well.true)
-          (told-turn args.quiet p q args.chunk.now a.at a.out f.result _ _ a.invariant.0 f.ensures _ refl w.new.tally w.result w.ensures) }
+    record {
+      kept = filled-kept args.quiet p q args.chunk.now a.at a.out f.result _ _ a.invariant.0 f.ensures w.result;
+      stands = stands_ill args.quiet p args.chunk.now f.result.at w.result _ (sym c.is_well.ensures ∙ not-true c.is_well.result c.if-not-is_well.true)
+          (told-turn args.quiet p q args.chunk.now a.at a.out f.result _ _ a.invariant.0 f.ensures _ refl w.new.tally w.result w.ensures);
+    }
 
 pub loop-block-smaller : goal.loop-block-smaller
 loop-block-smaller c =

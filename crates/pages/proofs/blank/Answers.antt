@@ -1,9 +1,7 @@
 -- Each turn writes one 0 more.
-use Prim.Native.Nat.{◌≤◌, ◌-◌}
-use mathlib.Core.Path.{◌≡◌, refl}
+use mathlib.Core.Path.{refl}
 use native.Mathlib.Omega.{arith}
-use lib.ListN.{length, length-set}
-use Rattle.bits.specs.Paint.{Painted}
+use lib.ListN.{length-set}
 use Rattle.bits.proofs.Painting.{painted_none, painted_turn, painted-count}
 use Rattle.pages.proofs.blank.Goals as goal
 

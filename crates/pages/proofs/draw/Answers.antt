@@ -1,6 +1,5 @@
 -- Both passes give the screen (`screen-is`).
 use native.Mathlib.Omega.{arith}
-use borrow.Author.Rules.{rules}
 use Rattle.pages.proofs.Passes.{screen_is}
 use Rattle.pages.proofs.draw.Goals as goal
 

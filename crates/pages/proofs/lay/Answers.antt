@@ -1,11 +1,8 @@
 -- Each turn adds a row beneath those that are there (`rows-turn`), and nothing comes beneath the last (`rows_are`).
-use Prim.Native.Nat.{◌≤◌, ◌-◌, ◌*◌}
-use mathlib.Core.Path.{◌≡◌, refl}
+use mathlib.Core.Path.{refl}
 use native.Mathlib.Omega.{arith}
-use lib.ListN.{length}
-use Rattle.bits.specs.Paint.{Painted}
 use Rattle.bits.proofs.Painting.{painted_none, painted-length, painted-count}
-use Rattle.pages.specs.Passes.{reached, laid_byte}
+use Rattle.pages.specs.Passes.{reached}
 use Rattle.pages.proofs.Passes.{rows_turn, rows_are}
 use Rattle.pages.proofs.lay.Goals as goal
 

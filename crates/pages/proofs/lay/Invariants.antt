@@ -1,11 +1,8 @@
 use Prim.Native.Nat.{◌≤◌, ◌-◌, ◌*◌}
-use mathlib.Core.Path.{◌≡◌, refl}
-use native.Mathlib.Omega.{arith}
+use mathlib.Core.Path.{◌≡◌}
 use lib.ListN.{length}
 use Rattle.bits.specs.Paint.{Painted}
-use Rattle.bits.proofs.Painting.{painted_none, painted-length, painted-count}
-use Rattle.pages.specs.Passes.{reached, laid_byte}
-use Rattle.pages.proofs.Passes.{rows_turn, rows_are}
+use Rattle.pages.specs.Passes.{laid_byte}
 use Rattle.pages.proofs.lay.Given as goal
 
 abbrev pub invariant-loop-y : goal.invariant-loop-y

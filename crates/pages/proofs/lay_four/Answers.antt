@@ -1,11 +1,8 @@
 -- Each turn lays the two plane bytes of one tile's row (`four-turn`).
-use Prim.Native.Nat.{◌≤◌, ◌-◌, ◌*◌}
-use mathlib.Core.Path.{◌≡◌, refl}
+use mathlib.Core.Path.{refl}
 use native.Mathlib.Omega.{arith}
-use lib.ListN.{length, length-set}
-use Rattle.bits.specs.Paint.{Painted}
+use lib.ListN.{length-set}
 use Rattle.bits.proofs.Painting.{painted_none, painted-count}
-use Rattle.pages.specs.Passes.{four_byte}
 use Rattle.pages.proofs.Passes.{four_turn}
 use Rattle.pages.proofs.lay_four.Goals as goal
 

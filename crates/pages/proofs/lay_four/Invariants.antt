@@ -1,11 +1,8 @@
 use Prim.Native.Nat.{◌≤◌, ◌-◌, ◌*◌}
-use mathlib.Core.Path.{◌≡◌, refl}
-use native.Mathlib.Omega.{arith}
-use lib.ListN.{length, length-set}
+use mathlib.Core.Path.{◌≡◌}
+use lib.ListN.{length}
 use Rattle.bits.specs.Paint.{Painted}
-use Rattle.bits.proofs.Painting.{painted_none, painted-count}
 use Rattle.pages.specs.Passes.{four_byte}
-use Rattle.pages.proofs.Passes.{four_turn}
 use Rattle.pages.proofs.lay_four.Given as goal
 
 abbrev pub invariant-loop-c : goal.invariant-loop-c

@@ -1,11 +1,7 @@
 -- Each turn adds four tiles to those that are there (`fours-turn`).
-use Prim.Native.Nat.{◌≤◌, ◌-◌, ◌*◌}
-use mathlib.Core.Path.{◌≡◌, refl}
+use mathlib.Core.Path.{refl}
 use native.Mathlib.Omega.{arith}
-use lib.ListN.{length}
-use Rattle.bits.specs.Paint.{Painted}
 use Rattle.bits.proofs.Painting.{painted_none, painted-length, painted-count}
-use Rattle.pages.specs.Passes.{row_byte}
 use Rattle.pages.proofs.Passes.{fours_turn}
 use Rattle.pages.proofs.lay_fours.Goals as goal
 

@@ -1,6 +1,5 @@
 -- Its tiles, and behind them nothing (`row_is`).
 use native.Mathlib.Omega.{arith}
-use borrow.Author.Rules.{rules}
 use Rattle.bits.proofs.Painting.{painted-length}
 use Rattle.pages.proofs.Passes.{fours-fill, row_is}
 use Rattle.pages.proofs.lay_row.Goals as goal

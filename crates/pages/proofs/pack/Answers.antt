@@ -1,11 +1,9 @@
 -- Each turn packs the two bytes of one place (`pack-turn`).
-use Prim.Native.Nat.{◌≤◌, ◌-◌, ◌*◌}
-use mathlib.Core.Path.{◌≡◌, refl}
+use mathlib.Core.Path.{refl}
 use native.Mathlib.Omega.{arith}
-use lib.ListN.{length, length-set}
-use Rattle.bits.specs.Paint.{Painted}
+use lib.ListN.{length-set}
 use Rattle.bits.proofs.Painting.{painted_none, painted-count}
-use Rattle.pages.specs.Passes.{reached, packed_byte}
+use Rattle.pages.specs.Passes.{reached}
 use Rattle.pages.proofs.Passes.{pack_turn}
 use Rattle.pages.proofs.pack.Goals as goal
 

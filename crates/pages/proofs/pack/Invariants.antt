@@ -1,11 +1,8 @@
 use Prim.Native.Nat.{◌≤◌, ◌-◌, ◌*◌}
-use mathlib.Core.Path.{◌≡◌, refl}
-use native.Mathlib.Omega.{arith}
-use lib.ListN.{length, length-set}
+use mathlib.Core.Path.{◌≡◌}
+use lib.ListN.{length}
 use Rattle.bits.specs.Paint.{Painted}
-use Rattle.bits.proofs.Painting.{painted_none, painted-count}
-use Rattle.pages.specs.Passes.{reached, packed_byte}
-use Rattle.pages.proofs.Passes.{pack_turn}
+use Rattle.pages.specs.Passes.{packed_byte}
 use Rattle.pages.proofs.pack.Given as goal
 
 abbrev pub invariant-loop-k : goal.invariant-loop-k

@@ -1,6 +1,5 @@
 -- The tests in their order, and then the screen at the front.
 use native.Mathlib.Omega.{arith}
-use borrow.Author.Rules.{rules}
 use Rattle.view.specs.Answers.{number_told}
 use Rattle.pages.proofs.Calling.{no-page, no_room, made}
 use Rattle.bits.proofs.Named.{as-result_value-screen_after}

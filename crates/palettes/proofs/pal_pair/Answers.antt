@@ -1,7 +1,6 @@
 -- Colour 0 is shared, then each of the two palettes gets its three.
 use mathlib.Core.Path.{◌≡◌, ◌∙◌}
 use native.Mathlib.Omega.{arith}
-use borrow.Author.Rules.{rules}
 use lib.ListN.{length}
 use Rattle.bits.specs.Over.{part}
 use Rattle.bits.proofs.Overs.{length_part}

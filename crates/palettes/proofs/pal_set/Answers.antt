@@ -1,14 +1,13 @@
 -- Each turn puts the next chosen palette behind those that are there.
 use mathlib.Core.Path.{◌≡◌, ◌∙◌}
-use Prim.Native.Nat.{◌+◌, ◌≤◌, ◌-◌, ◌*◌}
+use Prim.Native.Nat.{◌+◌, ◌-◌, ◌*◌}
 use native.Mathlib.Omega.{arith}
 use borrow.Author.Rules.{rules}
 use lib.ListN.{length-take, length-drop, length}
-use Rattle.parts.specs.Parts.{palettes_bytes}
 use Rattle.bits.proofs.Overs.{length_over, length_part}
 use Rattle.bits.specs.Over.{part, over}
 use Rattle.palettes.specs.Palettes.{chosen}
-use Rattle.palettes.proofs.Choosing.{Chosen, chosen_none, chosen_more, chosen_all}
+use Rattle.palettes.proofs.Choosing.{chosen_none, chosen_more, chosen_all}
 use Rattle.palettes.proofs.pal_set.Goals as goal
 
 pub loop-i-init : goal.loop-i-init

@@ -1,7 +1,6 @@
 -- The colour is put at the start of each palette, one after another.
 use mathlib.Core.Path.{◌≡◌, ◌∙◌}
 use native.Mathlib.Omega.{arith}
-use borrow.Author.Rules.{rules}
 use lib.ListN.{length}
 use Rattle.bits.specs.Over.{part}
 use Rattle.bits.proofs.Overs.{length_part}

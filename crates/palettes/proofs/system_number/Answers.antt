@@ -1,7 +1,6 @@
 -- Nine bits of the word at 1 + 2 i.
 use mathlib.Core.Path.{◌∙◌}
 use native.Mathlib.Omega.{arith}
-use borrow.Author.Rules.{rules}
 use lib.Bits.{and_mask, mask_lt}
 use Rattle.bits.specs.Word.{word_at}
 use Rattle.palettes.specs.Palettes.{system_number}

@@ -1,7 +1,6 @@
 -- The test is the definition's; else the word of the two bytes at that place.
 use mathlib.Core.Path.{◌∙◌}
 use borrow.Author.Tests.{eq-eqb, ne_eqb}
-use borrow.Author.Rules.{rules}
 use Rattle.bits.specs.Word.{word_at}
 use Rattle.picture.specs.Tables.{border_color}
 use Rattle.picture.proofs.border_color.Goals as goal

@@ -1,9 +1,7 @@
 -- Each turn writes the next colour.
-use Prim.Native.Nat.{◌-◌, ◌≤◌}
-use mathlib.Core.Path.{◌≡◌, refl}
+use mathlib.Core.Path.{refl}
 use native.Mathlib.Omega.{arith}
-use lib.ListN.{length, length-set}
-use Rattle.bits.specs.Paint.{Painted}
+use lib.ListN.{length-set}
 use Rattle.bits.proofs.Painting.{painted_none, painted_turn, painted-count, painted_all}
 use Rattle.picture.specs.Tables.{border_color}
 use Rattle.picture.proofs.border_colors.Goals as goal

@@ -1,11 +1,7 @@
 -- Each turn adds a run after those that are there (`row-turn`).
-use Prim.Native.Nat.{◌-◌, ◌*◌, ◌≤◌}
-use mathlib.Core.Path.{◌≡◌, refl}
+use mathlib.Core.Path.{refl}
 use native.Mathlib.Omega.{arith}
-use lib.ListN.{length}
-use Rattle.bits.specs.Paint.{Painted}
 use Rattle.bits.proofs.Painting.{painted_none, painted-count, painted-length}
-use Rattle.picture.specs.Tables.{pixel_on}
 use Rattle.picture.proofs.Whole.{row_turn}
 use Rattle.picture.proofs.row.Goals as goal
 

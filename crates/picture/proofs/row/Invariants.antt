@@ -1,11 +1,8 @@
 use Prim.Native.Nat.{◌-◌, ◌*◌, ◌≤◌}
-use mathlib.Core.Path.{◌≡◌, refl}
-use native.Mathlib.Omega.{arith}
+use mathlib.Core.Path.{◌≡◌}
 use lib.ListN.{length}
 use Rattle.bits.specs.Paint.{Painted}
-use Rattle.bits.proofs.Painting.{painted_none, painted-count, painted-length}
 use Rattle.picture.specs.Tables.{pixel_on}
-use Rattle.picture.proofs.Whole.{row_turn}
 use Rattle.picture.proofs.row.Given as goal
 
 abbrev pub invariant-loop-c : goal.invariant-loop-c

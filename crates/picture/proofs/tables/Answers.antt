@@ -1,7 +1,6 @@
 -- Table by table; the border's has the backdrop that was asked for.
 use Prim.Native.Nat.{ℕ}
 use mathlib.Core.Path.{ap, ◌∙◌}
-use borrow.Author.Rules.{rules}
 use Rattle.bits.specs.Tab.{tab}
 use Rattle.picture.specs.Tables.{border_color}
 use Rattle.picture.proofs.tables.Goals as goal

@@ -1,11 +1,8 @@
 -- Each turn writes the next entry.
-use Prim.Native.Nat.{◌-◌, ◌≤◌}
-use mathlib.Core.Path.{◌≡◌, refl}
+use mathlib.Core.Path.{refl}
 use native.Mathlib.Omega.{arith}
-use lib.ListN.{length, length-set}
-use Rattle.bits.specs.Paint.{Painted}
+use lib.ListN.{length-set}
 use Rattle.bits.proofs.Painting.{painted_none, painted_turn, painted-count}
-use Rattle.picture_lanes.specs.Lanes.{spread_of}
 use Rattle.picture_lanes.proofs.fill_left.Goals as goal
 
 pub loop-k-init : goal.loop-k-init

@@ -1,6 +1,5 @@
 -- The two halves are one run, which is the whole table.
 use mathlib.Core.Path.{refl}
-use borrow.Author.Rules.{rules}
 use Rattle.bits.proofs.Painting.{painted-run, painted_all}
 use Rattle.picture_lanes.proofs.fill_spreads.Goals as goal
 

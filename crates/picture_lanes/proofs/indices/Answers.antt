@@ -4,7 +4,6 @@ use mathlib.Core.Bool.{Bool}
 use mathlib.Core.Path.{sym, ap, ◌∙◌}
 use native.Mathlib.Omega.{arith}
 use lib.ListN.{length}
-use borrow.Author.Rules.{rules}
 use Rattle.border.specs.Border.{flipped}
 use Rattle.border.proofs.Entries.{drawn-tile, tile-long}
 use Rattle.picture_lanes.proofs.Spreads.{all_lanes, no-lanes}

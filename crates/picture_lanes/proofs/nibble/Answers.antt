@@ -1,7 +1,7 @@
 -- A shift and a mask of four bits.
 use Prim.Native.Nat.{◌*◌, ◌/◌, ◌^◌}
 use lib.Bits.{and_mask, mask_lt}
-use borrow.Author.Rules.{Fits-under, rules}
+use borrow.Author.Rules.{Fits-under}
 use Rattle.picture_lanes.specs.Lanes.{lane}
 use Rattle.picture_lanes.proofs.nibble.Goals as goal
 

@@ -1,6 +1,5 @@
 -- The table's entry for the byte, in the half for its side (`read_left`, `read_right`).
 use native.Mathlib.Omega.{arith}
-use borrow.Author.Rules.{rules}
 use Rattle.picture_lanes.proofs.Spreads.{spread-long, read_left, read_right}
 use Rattle.picture_lanes.proofs.spread_at.Goals as goal
 

@@ -1,7 +1,6 @@
 -- A word that draws has palette 4, 5 or 6 (`base-drawn`).
 use mathlib.Core.Path.{sym, ◌∙◌}
 use native.Mathlib.Omega.{arith}
-use borrow.Author.Rules.{rules}
 use Rattle.border.proofs.Entries.{drawn-palette}
 use Rattle.picture_runs.proofs.Cells.{base-drawn, base_none}
 use Rattle.picture_runs.proofs.base.Goals as goal

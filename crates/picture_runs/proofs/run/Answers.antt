@@ -1,6 +1,5 @@
 -- Each branch draws its kind of run, which gives the run's pixels (proofs/Pixels).
 use mathlib.Core.Path.{sym, ◌∙◌}
-use borrow.Author.Rules.{rules}
 use Rattle.picture_runs.proofs.Pixels.{game-run, both_run, plain-run, border-run}
 use Rattle.picture_runs.proofs.Cells.{is_within, base-first}
 use Rattle.picture_runs.proofs.run.Goals as goal

@@ -1,11 +1,9 @@
 -- Each turn writes the next pixel, from its lane.
-use Prim.Native.Nat.{ℕ, ◌+◌, ◌-◌, ◌≤◌}
-use mathlib.Core.Path.{◌≡◌, refl, ap, ◌∙◌}
+use Prim.Native.Nat.{ℕ, ◌+◌}
+use mathlib.Core.Path.{refl, ap, ◌∙◌}
 use native.Mathlib.Omega.{arith}
-use lib.ListN.{length, length-set, get_or}
-use Rattle.bits.specs.Paint.{Painted}
+use lib.ListN.{length-set, get_or}
 use Rattle.bits.proofs.Painting.{painted_none, painted_turn, painted-count}
-use Rattle.picture_lanes.specs.Lanes.{lane}
 use Rattle.picture_runs.proofs.run_border.Goals as goal
 
 pub loop-j-init : goal.loop-j-init

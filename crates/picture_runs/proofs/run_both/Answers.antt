@@ -1,14 +1,12 @@
 -- Each turn writes the next pixel, from its lane and its shade.
-use Prim.Native.Nat.{ℕ, ◌+◌, ◌-◌, ◌≤◌}
-use mathlib.Core.Path.{◌≡◌, refl, ap₂, ◌∙◌}
+use Prim.Native.Nat.{ℕ, ◌+◌}
+use mathlib.Core.Path.{refl, ap₂, ◌∙◌}
 use mathlib.Core.Bool.{cond}
 use native.Mathlib.Omega.{arith}
 use lib.Dec.{eqb}
-use lib.ListN.{length, length-set, get_or}
-use Rattle.bits.specs.Paint.{Painted}
+use lib.ListN.{length-set, get_or}
 use Rattle.bits.proofs.Painting.{painted_none, painted_turn, painted-count}
-use Rattle.picture_runs.specs.Runs.{lane_shade, run_pixel}
-use Rattle.picture_lanes.specs.Lanes.{lane}
+use Rattle.picture_runs.specs.Runs.{run_pixel}
 use Rattle.picture_runs.proofs.run_both.Goals as goal
 
 pub loop-j-init : goal.loop-j-init

@@ -1,11 +1,7 @@
-use Prim.Native.Nat.{ℕ, ◌+◌, ◌-◌, ◌≤◌}
-use mathlib.Core.Path.{◌≡◌, refl, ap₂, ◌∙◌}
-use mathlib.Core.Bool.{cond}
-use native.Mathlib.Omega.{arith}
-use lib.Dec.{eqb}
-use lib.ListN.{length, length-set, get_or}
+use Prim.Native.Nat.{◌+◌, ◌-◌, ◌≤◌}
+use mathlib.Core.Path.{◌≡◌}
+use lib.ListN.{length, get_or}
 use Rattle.bits.specs.Paint.{Painted}
-use Rattle.bits.proofs.Painting.{painted_none, painted_turn, painted-count}
 use Rattle.picture_runs.specs.Runs.{lane_shade, run_pixel}
 use Rattle.picture_lanes.specs.Lanes.{lane}
 use Rattle.picture_runs.proofs.run_both.Given as goal

@@ -1,9 +1,7 @@
 -- Each turn writes the next pixel.
-use Prim.Native.Nat.{◌-◌, ◌≤◌}
-use mathlib.Core.Path.{◌≡◌, refl}
+use mathlib.Core.Path.{refl}
 use native.Mathlib.Omega.{arith}
-use lib.ListN.{length, length-set}
-use Rattle.bits.specs.Paint.{Painted}
+use lib.ListN.{length-set}
 use Rattle.bits.proofs.Painting.{painted_none, painted_turn, painted-count}
 use Rattle.picture_runs.proofs.run_plain.Goals as goal
 

@@ -1,7 +1,7 @@
 -- A shift and a mask of two bits.
 use Prim.Native.Nat.{◌-◌, ◌*◌, ◌/◌, ◌^◌}
 use lib.Bits.{and_mask, mask_lt}
-use borrow.Author.Rules.{Fits-under, rules}
+use borrow.Author.Rules.{Fits-under}
 use Rattle.picture_runs.specs.Runs.{lane_shade}
 use Rattle.picture_runs.proofs.shade.Goals as goal
 

@@ -1,7 +1,6 @@
 -- The two bytes at that place pack the eight shades (`packs`).
 use Prim.Native.Nat.{◌+◌, ◌-◌, ◌*◌}
 use native.Mathlib.Omega.{arith}
-use borrow.Author.Rules.{rules}
 use Rattle.picture_runs.specs.Runs.{screen_from}
 use Rattle.picture_runs.proofs.Eights.{packs}
 use Rattle.picture_runs.proofs.shades.Goals as goal

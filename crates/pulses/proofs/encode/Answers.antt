@@ -1,5 +1,4 @@
 -- No packets means malformed, too little room is refused, and else the packets are written.
-use borrow.Author.Rules.{rules}
 use mathlib.Core.Path.{ap, ◌∙◌}
 use native.Mathlib.Omega.{arith}
 use lib.ListN.{length}

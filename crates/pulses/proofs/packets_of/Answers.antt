@@ -1,5 +1,4 @@
 -- The two tests are those of refusal 5; a count of 0 is no whole number of packets of a command that isn't empty.
-use borrow.Author.Rules.{rules}
 use mathlib.Core.Path.{◌∙◌}
 use native.Mathlib.Omega.{arith}
 use Rattle.pulses.specs.Bytes.{packets_in}

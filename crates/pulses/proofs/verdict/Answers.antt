@@ -1,5 +1,4 @@
 -- No packets means malformed, and else the rule's answer is the definition's.
-use borrow.Author.Rules.{rules}
 use mathlib.Core.Path.{sym, ◌∙◌}
 use native.Mathlib.Omega.{arith}
 use Rattle.pulses.specs.Answer.{verdict_answer}

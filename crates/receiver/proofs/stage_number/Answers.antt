@@ -1,5 +1,4 @@
 -- Each arm knows its stage, and the definition computes there.
-use borrow.Author.Rules.{rules}
 use Rattle.receiver.specs.Receive.{stage_number}
 use Rattle.receiver.proofs.stage_number.Goals as goal
 

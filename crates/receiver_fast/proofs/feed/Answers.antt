@@ -1,5 +1,4 @@
 -- The words are full or empty, so a gathered word stands beside the other.
-use borrow.Author.Rules.{rules}
 use mathlib.Core.Path.{refl}
 use Prim.Native.Nat.{◌+◌}
 use native.Mathlib.Omega.{arith}

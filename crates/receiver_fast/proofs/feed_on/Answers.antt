@@ -1,5 +1,4 @@
 -- A word where pulses count, else nothing is passed.
-use borrow.Author.Rules.{rules}
 use mathlib.Core.Path.{subst⁻¹}
 use Rattle.receiver_run.specs.declared.Lines.{Lines}
 use Rattle.receiver_polling.specs.Passing.{Passed}

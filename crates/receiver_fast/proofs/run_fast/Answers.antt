@@ -1,13 +1,13 @@
 -- What is skipped doesn't change the run, and else a turn is a write of the rule, as in `run`.
 use mathlib.Core.Path.{◌≡◌, refl, sym, ap, ◌∙◌}
-use Prim.Native.Nat.{ℕ, ◌+◌, ◌-◌, ◌≤◌, ◌<◌}
+use Prim.Native.Nat.{ℕ, ◌+◌}
 use native.Mathlib.Omega.{arith}
-use lib.ListN.{length, get_or, drop, drop_of_length-le}
+use lib.ListN.{length, get_or, drop_of_length-le}
 use Rattle.receiver.specs.Lines.{indexed}
 use Rattle.receiver.specs.Port.{Port, step_at}
 use Rattle.receiver.specs.Store.{packets_of}
 use Rattle.receiver.proofs.Sound.{has-place}
-use Rattle.receiver_run.specs.Run.{lined, runs, port_of, Ready}
+use Rattle.receiver_run.specs.Run.{lined, port_of}
 use Rattle.receiver_run.specs.declared.Lines.{Lines}
 use Rattle.receiver_run.proofs.Turns.{ready-lined, same-port, same_count, goes_on, ends_with, at_end}
 use Rattle.receiver_polling.specs.Passing.{lines_after}

@@ -1,15 +1,7 @@
-use mathlib.Core.Path.{◌≡◌, refl, sym, ap, ◌∙◌}
-use Prim.Native.Nat.{ℕ, ◌+◌, ◌-◌, ◌≤◌, ◌<◌}
-use native.Mathlib.Omega.{arith}
-use lib.ListN.{length, get_or, drop, drop_of_length-le}
-use Rattle.receiver.specs.Lines.{indexed}
-use Rattle.receiver.specs.Port.{Port, step_at}
-use Rattle.receiver.specs.Store.{packets_of}
-use Rattle.receiver.proofs.Sound.{has-place}
-use Rattle.receiver_run.specs.Run.{lined, runs, port_of, Ready}
-use Rattle.receiver_run.specs.declared.Lines.{Lines}
-use Rattle.receiver_run.proofs.Turns.{ready-lined, same-port, same_count, goes_on, ends_with, at_end}
-use Rattle.receiver_polling.specs.Passing.{lines_after}
+use mathlib.Core.Path.{◌≡◌}
+use Prim.Native.Nat.{◌-◌, ◌≤◌, ◌<◌}
+use lib.ListN.{length, drop}
+use Rattle.receiver_run.specs.Run.{runs, port_of, Ready}
 use Rattle.receiver_fast.proofs.run_fast.Given as goal
 
 abbrev pub invariant-loop-i : goal.invariant-loop-i

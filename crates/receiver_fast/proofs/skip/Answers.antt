@@ -1,5 +1,4 @@
 -- By the stage: a word of a packet, or the wait.
-use borrow.Author.Rules.{rules}
 use mathlib.Core.Path.{sym, ◌∙◌}
 use Rattle.receiver_fast.proofs.Passes.{receives, waits}
 use Rattle.receiver_fast.proofs.skip.Goals as goal

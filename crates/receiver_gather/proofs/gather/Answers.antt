@@ -1,13 +1,12 @@
 -- Each turn takes four pulses more.
-use borrow.Author.Rules.{rules}
-use Prim.Native.Nat.{ℕ, ◌-◌, ◌/◌}
+use Prim.Native.Nat.{ℕ, ◌/◌}
 use native.Mathlib.Omega.{arith}
 use lib.Bits.{and_le_r}
 use lib.Dec.{lit<}
 use lib.ListN.{drop}
 use Rattle.receiver_gather.proofs.Feeds.{feeds_none}
 use Rattle.receiver_gather.proofs.Lanes.{gathers-four, parts}
-use Rattle.receiver_gather.proofs.Gathers.{Gathering, gave}
+use Rattle.receiver_gather.proofs.Gathers.{gave}
 use Rattle.receiver_gather.proofs.gather.Goals as goal
 
 pub returns-then-writes-from-lt128 : goal.returns-then-writes-from-lt128

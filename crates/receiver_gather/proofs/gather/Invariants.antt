@@ -1,12 +1,5 @@
-use borrow.Author.Rules.{rules}
-use Prim.Native.Nat.{ℕ, ◌-◌, ◌/◌}
-use native.Mathlib.Omega.{arith}
-use lib.Bits.{and_le_r}
-use lib.Dec.{lit<}
-use lib.ListN.{drop}
-use Rattle.receiver_gather.proofs.Feeds.{feeds_none}
-use Rattle.receiver_gather.proofs.Lanes.{gathers-four, parts}
-use Rattle.receiver_gather.proofs.Gathers.{Gathering, gave}
+use Prim.Native.Nat.{◌-◌}
+use Rattle.receiver_gather.proofs.Gathers.{Gathering}
 use Rattle.receiver_gather.proofs.gather.Given as goal
 
 abbrev pub invariant-loop-count : goal.invariant-loop-count

@@ -1,5 +1,4 @@
 -- Both lines and the index, each by its own rule.
-use borrow.Author.Rules.{rules}
 use Rattle.receiver_polling.specs.Passing.{lines_after}
 use Rattle.receiver_polling.proofs.after.Goals as goal
 

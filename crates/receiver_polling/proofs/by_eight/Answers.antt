@@ -1,12 +1,10 @@
 -- Each turn passes eight writes more by, and counts the rises of P15 among them.
-use borrow.Author.Rules.{rules}
 use mathlib.Core.Path.{sym}
-use Prim.Native.Nat.{ℕ, ◌+◌, ◌-◌, ◌≤◌, ◌<◌}
+use Prim.Native.Nat.{ℕ, ◌<◌}
 use native.Mathlib.Omega.{arith}
 use lib.Bits.{and_le_r}
-use lib.ListN.{length, get_or}
+use lib.ListN.{get_or}
 use Rattle.receiver.specs.Rises.{rises}
-use Rattle.receiver_polling.specs.Passing.{Passed}
 use Rattle.receiver.proofs.Rises.{rises-add}
 use Rattle.receiver_polling.proofs.Strides.{stay, then}
 use Rattle.receiver_polling.proofs.Bytes.{rose}

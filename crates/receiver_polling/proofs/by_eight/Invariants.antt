@@ -1,15 +1,7 @@
-use borrow.Author.Rules.{rules}
-use mathlib.Core.Path.{sym}
-use Prim.Native.Nat.{ℕ, ◌+◌, ◌-◌, ◌≤◌, ◌<◌}
-use native.Mathlib.Omega.{arith}
-use lib.Bits.{and_le_r}
-use lib.ListN.{length, get_or}
+use Prim.Native.Nat.{◌+◌, ◌-◌, ◌≤◌, ◌<◌}
+use lib.ListN.{length}
 use Rattle.receiver.specs.Rises.{rises}
 use Rattle.receiver_polling.specs.Passing.{Passed}
-use Rattle.receiver.proofs.Rises.{rises-add}
-use Rattle.receiver_polling.proofs.Strides.{stay, then}
-use Rattle.receiver_polling.proofs.Bytes.{rose}
-use Rattle.receiver_polling.proofs.Polls.{slots, enough-high, high-count, rises-in, calm-eight, passed-eight}
 use Rattle.receiver_polling.proofs.by_eight.Given as goal
 
 abbrev pub invariant-loop-i : goal.invariant-loop-i

@@ -1,8 +1,5 @@
 -- Each write up to the next start pulse is passed by.
-use Prim.Native.Nat.{◌-◌}
 use native.Mathlib.Omega.{arith}
-use lib.ListN.{length}
-use Rattle.receiver_polling.specs.Passing.{Passed}
 use Rattle.receiver_polling.proofs.Strides.{stay, then}
 use Rattle.receiver_polling.proofs.Waits.{passed-one}
 use Rattle.receiver_polling.proofs.by_one.Goals as goal

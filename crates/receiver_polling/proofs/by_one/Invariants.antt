@@ -1,9 +1,6 @@
 use Prim.Native.Nat.{◌-◌}
-use native.Mathlib.Omega.{arith}
 use lib.ListN.{length}
 use Rattle.receiver_polling.specs.Passing.{Passed}
-use Rattle.receiver_polling.proofs.Strides.{stay, then}
-use Rattle.receiver_polling.proofs.Waits.{passed-one}
 use Rattle.receiver_polling.proofs.by_one.Given as goal
 
 abbrev pub invariant-loop-i : goal.invariant-loop-i

@@ -6,8 +6,7 @@ use Rattle.receiver.specs.Rises.{rises}
 use lib.Bits.{bit_and, and_mask, mask_lt, and_le_r}
 use native.Mathlib.Omega.{arith}
 use mathlib.Core.Path.{◌≡◌, refl, sym, ap, ◌∙◌}
-use Prim.Native.Nat.{ℕ, ◌+◌, ◌-◌, ◌≤◌, ◌<◌}
-use borrow.Author.Rules.{rules}
+use Prim.Native.Nat.{ℕ, ◌+◌}
 use Rattle.receiver_polling.proofs.index_rises.Goals as goal
 
 pub returns-then-n-eq0 : goal.returns-then-n-eq0

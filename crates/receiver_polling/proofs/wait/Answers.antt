@@ -1,5 +1,4 @@
 -- One way after the other.
-use borrow.Author.Rules.{rules}
 use mathlib.Core.Path.{sym, ◌∙◌}
 use Rattle.receiver_polling.proofs.Strides.{then}
 use Rattle.receiver_polling.proofs.wait.Goals as goal

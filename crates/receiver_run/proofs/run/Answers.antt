@@ -1,12 +1,11 @@
 -- Each turn is a write of the rule, and the run goes on from there, or ends at a command.
-use borrow.Author.Rules.{rules}
 use mathlib.Core.Path.{◌≡◌, refl, sym, ap, ◌∙◌}
-use Prim.Native.Nat.{ℕ, ◌+◌, ◌-◌, ◌≤◌, ◌<◌}
+use Prim.Native.Nat.{ℕ, ◌+◌, ◌<◌}
 use native.Mathlib.Omega.{arith}
-use lib.ListN.{length, get_or, drop, drop_of_length-le}
+use lib.ListN.{length, get_or, drop_of_length-le}
 use Rattle.receiver.specs.Port.{Port, step_at}
 use Rattle.receiver.proofs.Sound.{has-place}
-use Rattle.receiver_run.specs.Run.{lined, runs, Ready}
+use Rattle.receiver_run.specs.Run.{lined}
 use Rattle.receiver_run.proofs.Turns.{port, ready-lined, same-port, same_count, goes_on, ends_with, at_end}
 use Rattle.receiver.specs.Receive.{rx_of}
 use Rattle.receiver.specs.Store.{packets_of}

@@ -1,14 +1,9 @@
-use borrow.Author.Rules.{rules}
-use mathlib.Core.Path.{◌≡◌, refl, sym, ap, ◌∙◌}
-use Prim.Native.Nat.{ℕ, ◌+◌, ◌-◌, ◌≤◌, ◌<◌}
-use native.Mathlib.Omega.{arith}
-use lib.ListN.{length, get_or, drop, drop_of_length-le}
-use Rattle.receiver.specs.Port.{Port, step_at}
-use Rattle.receiver.proofs.Sound.{has-place}
-use Rattle.receiver_run.specs.Run.{lined, runs, Ready}
-use Rattle.receiver_run.proofs.Turns.{port, ready-lined, same-port, same_count, goes_on, ends_with, at_end}
+use mathlib.Core.Path.{◌≡◌}
+use Prim.Native.Nat.{◌-◌, ◌≤◌}
+use lib.ListN.{length, drop}
+use Rattle.receiver_run.specs.Run.{runs, Ready}
+use Rattle.receiver_run.proofs.Turns.{port}
 use Rattle.receiver.specs.Receive.{rx_of}
-use Rattle.receiver.specs.Store.{packets_of}
 use Rattle.receiver_run.proofs.run.Given as goal
 
 abbrev pub invariant-loop-i : goal.invariant-loop-i

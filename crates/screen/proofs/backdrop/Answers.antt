@@ -1,5 +1,4 @@
 -- Colour 0 of palette 0, by definition.
-use borrow.Author.Rules.{rules}
 use Rattle.screen.specs.Colours.{backdrop_of}
 use Rattle.screen.proofs.backdrop.Goals as goal
 

@@ -1,6 +1,5 @@
 -- Each branch reads the two bytes of one word: the preset's while it is in force, else the palette's.
 use mathlib.Core.Path.{◌∙◌}
-use borrow.Author.Rules.{rules}
 use Rattle.bits.specs.Word.{word_at}
 use Rattle.screen.specs.Colours.{palette_colour}
 use Rattle.screen.proofs.color.Goals as goal

@@ -1,6 +1,5 @@
 -- The cell's number is the packed pair that is read.
 use mathlib.Core.Path.{◌∙◌}
-use borrow.Author.Rules.{rules}
 use Rattle.screen.specs.Colours.{colour_at}
 use Rattle.screen.proofs.color_at.Goals as goal
 

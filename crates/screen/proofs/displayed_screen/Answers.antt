@@ -1,6 +1,5 @@
 -- The tests are the definition's, and each branch hands back a whole capture or an empty part.
 use borrow.Author.Tests.{eq-eqb, ne_eqb}
-use borrow.Author.Rules.{rules}
 use lib.ListN.{length}
 use Rattle.parts.specs.Parts.{capture_bytes}
 use Rattle.screen.specs.Displayed.{displayed}

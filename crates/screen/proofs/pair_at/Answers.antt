@@ -3,7 +3,6 @@ use Prim.Native.Nat.{◌/◌, ◌%◌}
 use mathlib.Core.Path.{◌∙◌}
 use native.Mathlib.Omega.{arith}
 use lib.ListN.{get_or}
-use borrow.Author.Rules.{rules}
 use Rattle.bits.proofs.Pairs.{pair_lt}
 use Rattle.screen.specs.Packed.{pair_at}
 use Rattle.screen.proofs.pair_at.Goals as goal

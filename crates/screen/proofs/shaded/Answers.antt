@@ -1,7 +1,6 @@
 -- The test on the shade is the definition's.
 use mathlib.Core.Path.{◌∙◌}
 use borrow.Author.Tests.{eq-eqb, ne_eqb}
-use borrow.Author.Rules.{rules}
 use Rattle.screen.specs.Colours.{shaded_of}
 use Rattle.screen.proofs.shaded.Goals as goal
 

@@ -1,7 +1,5 @@
 -- One after the other.
-use borrow.Author.Tests.{not-true, not-false}
 use mathlib.Core.Path.{sym, ◌∙◌}
-use borrow.Author.Rules.{rules}
 use Rattle.state.proofs.cells_fit.Goals as goal
 
 pub returns-then-not-palette_numbers : goal.returns-then-not-palette_numbers

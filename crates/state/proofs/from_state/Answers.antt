@@ -1,10 +1,8 @@
 -- The refusals in their order, and else by the rules.
-use borrow.Author.Tests.{not-true, not-false}
 use mathlib.Core.Path.{sym, ◌∙◌}
 use Rattle.state_spans.specs.State.{state_lent}
 use Rattle.state.proofs.Takes.{cells_are}
 use Rattle.state.proofs.Answers.{another-length, misfit, over-three, by-the-rules}
-use borrow.Author.Rules.{rules}
 use Rattle.bits.proofs.Named.{as-result_value-block_after}
 use Rattle.state.proofs.from_state.Goals as goal
 

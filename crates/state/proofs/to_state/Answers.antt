@@ -1,12 +1,10 @@
 -- The refusals in their order, and else the state that the block says.
-use borrow.Author.Tests.{not-true, not-false}
 use mathlib.Core.Path.{refl, sym, ◌∙◌}
 use Rattle.view.proofs.Refusals.{refuses, accepts}
 use Rattle.view.specs.Answers.{number_told}
 use Rattle.state_spans.specs.Going.{lent, to_answer}
 use Rattle.state_spans.proofs.Stored.{stored_in}
 use Rattle.state.proofs.Answers.{keeps-all, no_room, goes-out}
-use borrow.Author.Rules.{rules}
 use Rattle.bits.proofs.Named.{as-result_value-border_palettes_after}
 use Rattle.state.proofs.to_state.Goals as goal
 

@@ -1,12 +1,9 @@
 -- Each turn stores the byte of the next four.
-use mathlib.Core.Path.{◌≡◌, refl, sym, ◌∙◌}
-use mathlib.Core.List.{List}
-use Prim.Native.Nat.{ℕ, ◌+◌, ◌-◌, ◌*◌, ◌%◌, ◌≤◌}
+use mathlib.Core.Path.{refl, sym, ◌∙◌}
 use native.Mathlib.Nat.{add-zero, zero-add}
 use native.Mathlib.Omega.{arith}
-use lib.ListN.{length, get_or, length-set}
+use lib.ListN.{length-set}
 use Rattle.bits.proofs.Painting.{painted-count, painted_none, painted_turn, painted_all, painted-length}
-use Rattle.bits.specs.Paint.{Painted}
 use Rattle.bits.specs.Pair.{packed}
 use Rattle.state_cells.specs.Cells.{pack_cells}
 use borrow.Author.Rules.{rules}

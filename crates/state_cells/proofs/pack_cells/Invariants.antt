@@ -1,14 +1,9 @@
-use mathlib.Core.Path.{◌≡◌, refl, sym, ◌∙◌}
+use mathlib.Core.Path.{◌≡◌}
 use mathlib.Core.List.{List}
 use Prim.Native.Nat.{ℕ, ◌+◌, ◌-◌, ◌*◌, ◌%◌, ◌≤◌}
-use native.Mathlib.Nat.{add-zero, zero-add}
-use native.Mathlib.Omega.{arith}
-use lib.ListN.{length, get_or, length-set}
-use Rattle.bits.proofs.Painting.{painted-count, painted_none, painted_turn, painted_all, painted-length}
+use lib.ListN.{length, get_or}
 use Rattle.bits.specs.Paint.{Painted}
 use Rattle.bits.specs.Pair.{packed}
-use Rattle.state_cells.specs.Cells.{pack_cells}
-use borrow.Author.Rules.{rules}
 use Rattle.state_cells.proofs.pack_cells.Given as goal
 
 abbrev pub four_of : List ℕ → ℕ → ℕ

@@ -1,13 +1,7 @@
 -- All that passed are palette numbers exactly if nothing is left of their OR past two bits.
-use Prim.Native.Nat.{◌-◌, ◌≤◌}
-use mathlib.Core.Bool.{◌&&◌}
-use mathlib.Core.Path.{◌≡◌, refl, sym, ◌∙◌}
+use mathlib.Core.Path.{refl, sym, ◌∙◌}
 use native.Mathlib.Omega.{arith}
-use lib.Dec.{eqb}
-use lib.ListN.{length, drop}
-use Rattle.state_cells.specs.Cells.{palette_numbers}
 use Rattle.state_cells.proofs.Celling.{numbers_turn, numbers_end}
-use borrow.Author.Rules.{rules}
 use Rattle.state_cells.proofs.palette_numbers.Goals as goal
 
 pub loop-i-init : goal.loop-i-init

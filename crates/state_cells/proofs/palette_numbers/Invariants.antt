@@ -1,12 +1,9 @@
 use Prim.Native.Nat.{◌-◌, ◌≤◌}
 use mathlib.Core.Bool.{◌&&◌}
-use mathlib.Core.Path.{◌≡◌, refl, sym, ◌∙◌}
-use native.Mathlib.Omega.{arith}
+use mathlib.Core.Path.{◌≡◌}
 use lib.Dec.{eqb}
 use lib.ListN.{length, drop}
 use Rattle.state_cells.specs.Cells.{palette_numbers}
-use Rattle.state_cells.proofs.Celling.{numbers_turn, numbers_end}
-use borrow.Author.Rules.{rules}
 use Rattle.state_cells.proofs.palette_numbers.Given as goal
 
 abbrev pub invariant-loop-i : goal.invariant-loop-i

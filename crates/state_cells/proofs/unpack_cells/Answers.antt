@@ -1,13 +1,10 @@
 -- Each turn stores the four pairs of a byte, one after the other.
 use mathlib.Core.Path.{◌≡◌, ap, ◌∙◌}
-use mathlib.Core.List.{List}
-use Prim.Native.Nat.{ℕ, ◌+◌, ◌-◌, ◌*◌, ◌/◌, ◌%◌, ◌≤◌}
+use Prim.Native.Nat.{ℕ, ◌+◌, ◌*◌}
 use native.Mathlib.Nat.{add-zero}
 use native.Mathlib.Omega.{arith}
-use lib.ListN.{length, get_or, length-set}
+use lib.ListN.{length-set}
 use Rattle.bits.proofs.Painting.{painted-count, painted_none, painted_turn, painted-tab, painted-length}
-use Rattle.bits.specs.Paint.{Painted}
-use Rattle.bits.specs.Pair.{pair_of}
 use Rattle.state_cells.specs.Cells.{unpack_cells}
 use Rattle.state_cells.proofs.Celling.{pair-at}
 use borrow.Author.Rules.{rules}

@@ -1,15 +1,9 @@
-use mathlib.Core.Path.{◌≡◌, ap, ◌∙◌}
+use mathlib.Core.Path.{◌≡◌}
 use mathlib.Core.List.{List}
-use Prim.Native.Nat.{ℕ, ◌+◌, ◌-◌, ◌*◌, ◌/◌, ◌%◌, ◌≤◌}
-use native.Mathlib.Nat.{add-zero}
-use native.Mathlib.Omega.{arith}
-use lib.ListN.{length, get_or, length-set}
-use Rattle.bits.proofs.Painting.{painted-count, painted_none, painted_turn, painted-tab, painted-length}
+use Prim.Native.Nat.{ℕ, ◌-◌, ◌*◌, ◌/◌, ◌%◌, ◌≤◌}
+use lib.ListN.{length, get_or}
 use Rattle.bits.specs.Paint.{Painted}
 use Rattle.bits.specs.Pair.{pair_of}
-use Rattle.state_cells.specs.Cells.{unpack_cells}
-use Rattle.state_cells.proofs.Celling.{pair-at}
-use borrow.Author.Rules.{rules}
 use Rattle.state_cells.proofs.unpack_cells.Given as goal
 
 abbrev pub pair_in : List ℕ → ℕ → ℕ

@@ -1,9 +1,8 @@
 -- A border of which a span is missing is not looked at, and else the lengths are.
-use borrow.Author.Tests.{eq-eqb, ne_eqb, not-true, not-false}
+use borrow.Author.Tests.{eq-eqb, ne_eqb}
 use mathlib.Core.Path.{sym, ◌∙◌}
 use Rattle.state_spans.proofs.Spans.{border-open, border-lengths}
 use Rattle.bits.specs.Bit.{bit_of}
-use borrow.Author.Rules.{rules}
 use Rattle.state_fits.proofs.border_fits.Goals as goal
 
 pub returns-then-not-whole_border : goal.returns-then-not-whole_border

@@ -1,8 +1,6 @@
 -- One after the other.
-use borrow.Author.Tests.{not-true, not-false}
 use mathlib.Core.Path.{sym, ◌∙◌}
 use Rattle.state_spans.specs.Coming.{captures_fit}
-use borrow.Author.Rules.{rules}
 use Rattle.state_fits.proofs.captures_fit.Goals as goal
 
 pub returns-then-not-has : goal.returns-then-not-has

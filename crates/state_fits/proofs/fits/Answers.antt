@@ -1,8 +1,6 @@
 -- One group after the other.
-use borrow.Author.Tests.{not-true, not-false}
 use mathlib.Core.Path.{sym, ◌∙◌}
 use Rattle.state_spans.specs.Coming.{fits}
-use borrow.Author.Rules.{rules}
 use Rattle.state_fits.proofs.fits.Goals as goal
 
 pub returns-then-not-front_fits : goal.returns-then-not-front_fits

@@ -1,8 +1,7 @@
 -- One after the other.
-use borrow.Author.Tests.{eq-eqb, ne_eqb, not-true, not-false}
+use borrow.Author.Tests.{eq-eqb, ne_eqb}
 use mathlib.Core.Path.{sym, ◌∙◌}
 use Rattle.state_spans.specs.Coming.{front_fits}
-use borrow.Author.Rules.{rules}
 use Rattle.state_fits.proofs.front_fits.Goals as goal
 
 pub returns-then-fields-ne-FIELDS : goal.returns-then-fields-ne-FIELDS

@@ -1,8 +1,6 @@
 -- By its bit, and then by its length.
-use borrow.Author.Tests.{not-true, not-false}
 use mathlib.Core.Path.{sym, ◌∙◌}
 use Rattle.state_spans.specs.Coming.{may_have}
-use borrow.Author.Rules.{rules}
 use Rattle.state_fits.proofs.may_have.Goals as goal
 
 pub returns-then-not-there : goal.returns-then-not-there

@@ -4,7 +4,6 @@ use mathlib.Core.Path.{ap, ◌∙◌}
 use Prim.Native.Nat.{ℕ, ◌*◌}
 use Rattle.state_spans.specs.Coming.{has, packets_fit}
 use Rattle.state_spans.specs.State.{span_if}
-use borrow.Author.Rules.{rules}
 use Rattle.state_fits.proofs.packets_fit.Goals as goal
 
 pub returns-then-received-gt7 : goal.returns-then-received-gt7

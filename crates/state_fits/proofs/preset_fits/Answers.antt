@@ -1,7 +1,6 @@
 -- Without its flag it is not looked at.
 use borrow.Author.Tests.{eq-eqb, ne_eqb}
 use Rattle.state_spans.specs.Coming.{preset_fits}
-use borrow.Author.Rules.{rules}
 use Rattle.state_fits.proofs.preset_fits.Goals as goal
 
 pub returns-then-in_force-ne1 : goal.returns-then-in_force-ne1

@@ -4,7 +4,6 @@ use mathlib.Core.Path.{ap}
 use lib.Bits.{and_mask}
 use lib.Dec.{eqb}
 use Rattle.bits.specs.Bit.{bit_of}
-use borrow.Author.Rules.{rules}
 use Rattle.state_fits.proofs.there.Goals as goal
 
 pub returns : goal.returns

@@ -1,7 +1,5 @@
 -- Bit after bit.
-use borrow.Author.Tests.{not-true, not-false}
 use mathlib.Core.Path.{sym, ◌∙◌}
-use borrow.Author.Rules.{rules}
 use Rattle.state_fits.proofs.whole_border.Goals as goal
 
 pub returns-then-not-there : goal.returns-then-not-there

@@ -1,12 +1,10 @@
 -- One of V1 to V5, or the mask behind them.
-use borrow.Author.Tests.{not-true, not-false}
 use mathlib.Core.List.{[], ◌∷◌}
 use mathlib.Core.Path.{sym, ◌∙◌}
 use Rattle.broken.specs.Broken.{front_rules}
 use Rattle.broken.proofs.Numbers.{number-kept, number_past}
 use Rattle.state_in.specs.Front.{asks_mask, front_number}
 use Rattle.state_in.proofs.Fronts.{mask-told, mask-clear}
-use borrow.Author.Rules.{rules}
 use Rattle.state_in.proofs.broken_rule.Goals as goal
 
 pub returns-then-no-ne0 : goal.returns-then-no-ne0

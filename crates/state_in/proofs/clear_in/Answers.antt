@@ -6,7 +6,6 @@ use native.Mathlib.Omega.{arith}
 use lib.ListN.{replicate}
 use Rattle.bits.specs.Over.{over}
 use Rattle.bits.proofs.Overs.{length_part}
-use borrow.Author.Rules.{rules}
 use Rattle.state_in.proofs.clear_in.Goals as goal
 
 pub returns : goal.returns

@@ -12,7 +12,6 @@ use Rattle.state_spans.specs.State.{bytes_in}
 use Rattle.state_spans.specs.Coming.{header_from, store_from, preset_from, front_from}
 use Rattle.state_in.proofs.Fronts.{front_made, preset_made}
 use Rattle.state_spans.proofs.Blocks.{store_long}
-use borrow.Author.Rules.{rules}
 use Rattle.state_in.proofs.fill_front.Goals as goal
 
 pub put-requires-then-fields-eq1 : goal.put-requires-then-fields-eq1

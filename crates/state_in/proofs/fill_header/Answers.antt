@@ -6,7 +6,6 @@ use lib.ListN.{length-set, set, replicate}
 use Rattle.bits.specs.Over.{over}
 use Rattle.parts.specs.Parts.{kind_at, frozen_on_at}
 use Rattle.state_in.proofs.Fronts.{header_made}
-use borrow.Author.Rules.{rules}
 use Rattle.state_in.proofs.fill_header.Goals as goal
 
 pub bounds-front-12 : goal.bounds-front-12

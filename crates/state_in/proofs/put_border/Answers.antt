@@ -4,7 +4,6 @@ use mathlib.Core.Path.{ap, ◌∙◌}
 use Rattle.bits.specs.Over.{over}
 use Rattle.parts.specs.Parts.{border_map_at, border_map_bytes, border_palettes_at, border_palettes_bytes}
 use Rattle.state_spans.specs.Coming.{border_from}
-use borrow.Author.Rules.{rules}
 use Rattle.state_in.proofs.put_border.Goals as goal
 
 pub returns : goal.returns

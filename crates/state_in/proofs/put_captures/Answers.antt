@@ -6,7 +6,6 @@ use Rattle.bits.specs.Over.{over}
 use Rattle.parts.specs.Parts.{capture_bytes, frozen_at}
 use Rattle.state_cells.specs.Cells.{pack_cells}
 use Rattle.state_spans.specs.Coming.{frozen_from}
-use borrow.Author.Rules.{rules}
 use Rattle.state_in.proofs.put_captures.Goals as goal
 
 pub put_cells-requires-then-frozen : goal.put_cells-requires-then-frozen

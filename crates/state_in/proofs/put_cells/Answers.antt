@@ -6,7 +6,6 @@ use native.Mathlib.Omega.{arith}
 use Rattle.bits.specs.Over.{over}
 use Rattle.bits.proofs.Overs.{length_part}
 use Rattle.state_cells.specs.Cells.{pack_cells}
-use borrow.Author.Rules.{rules}
 use Rattle.state_in.proofs.put_cells.Goals as goal
 
 pub returns : goal.returns

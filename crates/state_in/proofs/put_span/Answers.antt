@@ -5,7 +5,6 @@ use native.Mathlib.Omega.{arith}
 use Rattle.bits.specs.Over.{over}
 use Rattle.state_spans.specs.State.{bytes_in}
 use Rattle.state_spans.specs.Coming.{border_from}
-use borrow.Author.Rules.{rules}
 use Rattle.state_in.proofs.put_span.Goals as goal
 
 pub put-requires : goal.put-requires

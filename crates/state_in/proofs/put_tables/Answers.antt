@@ -4,7 +4,6 @@ use Prim.Native.Nat.{ℕ}
 use Rattle.bits.specs.Over.{over}
 use Rattle.parts.specs.Parts.{palettes_at, map_at, map_bytes, system_at, files_at, files_bytes}
 use Rattle.state_cells.specs.Cells.{pack_cells}
-use borrow.Author.Rules.{rules}
 use Rattle.state_in.proofs.put_tables.Goals as goal
 
 pub returns : goal.returns

@@ -1,7 +1,6 @@
 -- One after the other.
 use borrow.Author.Tests.{lt-leb, le-leb}
 use Rattle.state_spans.specs.Going.{captures_room}
-use borrow.Author.Rules.{rules}
 use Rattle.state_out.proofs.captures_room.Goals as goal
 
 pub returns-then-capture : goal.returns-then-capture

@@ -1,7 +1,6 @@
 -- Group by group.
 use Rattle.state_spans.specs.Going.{lent, laid_all}
 use Rattle.state_out.proofs.Laying.{rooms}
-use borrow.Author.Rules.{rules}
 use Rattle.state_out.proofs.lay.Goals as goal
 
 pub lay_front-requires : goal.lay_front-requires

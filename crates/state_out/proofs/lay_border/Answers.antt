@@ -2,7 +2,6 @@
 use native.Mathlib.Omega.{arith}
 use lib.ListN.{length-take, length-drop}
 use Rattle.state_spans.specs.Going.{state_of, laid}
-use borrow.Author.Rules.{rules}
 use Rattle.state_out.proofs.lay_border.Goals as goal
 
 pub put-requires : goal.put-requires

@@ -8,7 +8,6 @@ use Rattle.state_out.proofs.Laying.{cells-laid}
 use borrow.Author.Tests.{eq-eqb, ne_eqb}
 use Rattle.parts.specs.Parts.{live_at, frozen_at, capture_bytes}
 use Rattle.state_spans.specs.Going.{state_of, laid}
-use borrow.Author.Rules.{rules}
 use Rattle.state_out.proofs.lay_captures.Goals as goal
 
 pub unpack_cells-requires-then-block-eq1 : goal.unpack_cells-requires-then-block-eq1

@@ -8,7 +8,6 @@ use Rattle.bits.specs.Over.{part}
 use Rattle.layout.specs.Block.{byte, held}
 use Rattle.parts.specs.Parts.{received_at, store_at}
 use Rattle.state_spans.specs.Going.{state_of, laid}
-use borrow.Author.Rules.{rules}
 use Rattle.state_out.proofs.lay_front.Goals as goal
 
 pub shape_of-fields-then-block-eq1 : goal.shape_of-fields-then-block-eq1

@@ -6,7 +6,6 @@ use Rattle.bits.proofs.Overs.{length_part}
 use Rattle.state_out.proofs.Laying.{cells-laid}
 use Rattle.parts.specs.Parts.{map_at, map_bytes, files_at, files_bytes}
 use Rattle.state_spans.specs.Going.{state_of, laid}
-use borrow.Author.Rules.{rules}
 use Rattle.state_out.proofs.lay_tables.Goals as goal
 
 pub shape_of-palettes : goal.shape_of-palettes

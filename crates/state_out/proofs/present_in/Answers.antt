@@ -8,7 +8,6 @@ use Rattle.state_cells.specs.Cells.{unpack_cells}
 use Rattle.state_spans.specs.State.{is_there}
 use Rattle.state_spans.specs.Going.{state_of}
 use Rattle.state_out.proofs.Laying.{present-sum}
-use borrow.Author.Rules.{rules}
 use Rattle.state_out.proofs.present_in.Goals as goal
 
 pub returns : goal.returns

@@ -1,8 +1,6 @@
 -- One group after the other.
-use borrow.Author.Tests.{not-true, not-false}
 use mathlib.Core.Path.{sym, ◌∙◌}
 use Rattle.state_spans.specs.Going.{roomy}
-use borrow.Author.Rules.{rules}
 use Rattle.state_out.proofs.roomy.Goals as goal
 
 pub returns-then-not-front_room : goal.returns-then-not-front_room

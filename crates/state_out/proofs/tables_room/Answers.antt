@@ -1,7 +1,6 @@
 -- One after the other.
 use borrow.Author.Tests.{lt-leb, le-leb}
 use Rattle.state_spans.specs.Going.{tables_room}
-use borrow.Author.Rules.{rules}
 use Rattle.state_out.proofs.tables_room.Goals as goal
 
 pub returns-then-palettes-lt-PALETTES_BYTES : goal.returns-then-palettes-lt-PALETTES_BYTES

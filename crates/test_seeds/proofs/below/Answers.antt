@@ -1,7 +1,6 @@
 -- A remainder is below its divisor.
 use native.Mathlib.Nat.{mod-lt}
 use native.Mathlib.Omega.{arith}
-use borrow.Author.Rules.{rules}
 use Rattle.test_seeds.proofs.below.Goals as goal
 
 pub returns : goal.returns

@@ -1,5 +1,4 @@
 -- `unit::new` meets its contract: another length is refused, and else the worker makes the block.
-use borrow.Author.Rules.{rules}
 use Rattle.unit.proofs.Calling.{new-refused, new_made}
 use Rattle.bits.proofs.Named.{as-value-block_after}
 use Rattle.unit.proofs.new.Goals as goal

@@ -1,5 +1,4 @@
 -- `unit::play` meets its contract: the refusals in their order, and else what was played of the writes that one call takes.
-use borrow.Author.Rules.{rules}
 use Rattle.view.proofs.Refusals.{refuses, accepts}
 use Rattle.unit.specs.Answers.{played_told}
 use Rattle.unit.specs.Calls.{with_room}

@@ -4,7 +4,6 @@ use mathlib.Core.Option.{Option}
 use Prim.Native.Nat.{ℕ}
 use Rattle.pulses.specs.Answer.{given}
 use Rattle.unit.specs.Answers.{played_told, packets_if}
-use Rattle.unit.specs.Plays.{Taken}
 use Rattle.unit.proofs.Writes.{packets-some}
 use Rattle.unit.proofs.told.Goals as goal
 

@@ -1,5 +1,4 @@
 -- `unit::update_screen` meets its contract: the refusals in their order, and else the worker.
-use borrow.Author.Rules.{rules}
 use Rattle.view.proofs.Refusals.{refuses, accepts}
 use Rattle.unit.specs.Answers.{shown_told}
 use Rattle.unit.specs.Calls.{screen_answer}

@@ -1,6 +1,5 @@
 -- `unit::write_joypad` meets its contract: the refusals in their order, and else the worker, whose answer tells the command in the buffer.
 use mathlib.Core.Path.{sym, ◌∙◌}
-use borrow.Author.Rules.{rules}
 use Rattle.layout.proofs.Goods.{valid-good}
 use Rattle.layout.specs.Block.{load}
 use Rattle.rules.specs.Write.{answer}

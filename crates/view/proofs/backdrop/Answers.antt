@@ -1,5 +1,4 @@
 -- The refusals come first, then the worker answers.
-use borrow.Author.Rules.{rules}
 use mathlib.Core.Path.{ap, ◌∙◌}
 use Rattle.pulses.specs.Answer.{given}
 use Rattle.view.specs.Answers.{colour_told}

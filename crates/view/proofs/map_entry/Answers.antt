@@ -1,5 +1,4 @@
 -- The refusals come first, then the worker answers.
-use borrow.Author.Rules.{rules}
 use mathlib.Core.Path.{ap, ◌∙◌}
 use borrow.Author.Tests.{lt-ltb, le-ltb}
 use Rattle.pulses.specs.Answer.{given}

@@ -1,5 +1,4 @@
 -- The refusals come first; the mode is the unit's.
-use borrow.Author.Rules.{rules}
 use mathlib.Core.Path.{ap, ◌∙◌}
 use Rattle.pulses.specs.Answer.{given}
 use Rattle.view.specs.Answers.{number_told}

@@ -1,5 +1,4 @@
 -- The refusals come first and leave the output, then the worker draws.
-use borrow.Author.Rules.{rules}
 use borrow.Author.Tests.{le-leb, lt-leb}
 use Rattle.view.specs.Answers.{number_told}
 use Rattle.view.specs.Looks.{picture_answer}

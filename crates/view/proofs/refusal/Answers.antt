@@ -1,5 +1,4 @@
 -- The length, and then the number of the rule that is broken, if one is.
-use borrow.Author.Rules.{rules}
 use mathlib.Core.Path.{◌∙◌}
 use borrow.Author.Tests.{eq-eqb, ne_eqb}
 use Rattle.view.specs.Refusal.{refusal_of}

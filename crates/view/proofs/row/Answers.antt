@@ -1,5 +1,4 @@
 -- The refusals come first and leave the output, then the worker draws.
-use borrow.Author.Rules.{rules}
 use borrow.Author.Tests.{lt-ltb, le-ltb, le-leb, lt-leb}
 use Rattle.view.specs.Answers.{number_told}
 use Rattle.view.specs.Looks.{row_answer}

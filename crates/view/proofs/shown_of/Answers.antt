@@ -1,5 +1,4 @@
 -- Each case is its own.
-use borrow.Author.Rules.{rules}
 use Rattle.border.specs.Border.{colour_of}
 use Rattle.view.specs.Answers.{border_told}
 use Rattle.view.proofs.shown_of.Goals as goal

@@ -1,6 +1,5 @@
 -- Each return is the case of the definition that its tests leave.
 use borrow.Author.Tests.{lt-ltb, le-ltb}
-use borrow.Author.Rules.{rules}
 use Rattle.attribute_cells.specs.Chr.{next}
 use Rattle.attribute_cells.proofs.Spot.next.Goals as goal
 

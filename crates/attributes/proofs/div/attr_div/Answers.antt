@@ -1,5 +1,4 @@
 -- The two bytes are the definition's.
-use borrow.Author.Rules.{rules}
 use Rattle.attributes.specs.Div.{div_map}
 use Rattle.attributes.proofs.div.attr_div.Goals as goal
 

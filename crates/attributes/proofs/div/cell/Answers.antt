@@ -1,6 +1,5 @@
 -- The flag picks the row or the column.
 use mathlib.Core.Path.{◌∙◌}
-use borrow.Author.Rules.{rules}
 use Rattle.bits.proofs.Masks.{bit-set, bit-clear}
 use Rattle.attributes.specs.Div.{div_cell}
 use Rattle.attributes.proofs.div.cell.Goals as goal

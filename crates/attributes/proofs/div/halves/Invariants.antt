@@ -1,9 +1,5 @@
 use Prim.Native.Nat.{◌-◌, ◌≤◌}
-use native.Mathlib.Omega.{arith}
-use borrow.Author.Rules.{rules}
-use Rattle.attribute_map.specs.Map.{cell}
-use Rattle.attribute_map.proofs.Painting.{Painting, painting_none, painting_turn, painting-row, painting_all}
-use Rattle.attribute_map.proofs.Sizes.{sized}
+use Rattle.attribute_map.proofs.Painting.{Painting}
 use Rattle.attributes.specs.Div.{div_cell}
 use Rattle.attributes.proofs.div.halves.Given as goal
 

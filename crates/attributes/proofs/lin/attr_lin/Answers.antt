@@ -1,12 +1,11 @@
 -- Each turn does the next byte's line, and the turns end where the announced bytes or the data do.
 use mathlib.Core.Path.{ap, ◌∙◌}
-use Prim.Native.Nat.{◌≤◌, ◌+◌, ◌-◌}
+use Prim.Native.Nat.{◌+◌}
 use native.Mathlib.Omega.{arith}
-use borrow.Author.Rules.{rules}
-use lib.ListN.{length, get_or}
+use lib.ListN.{get_or}
 use Rattle.attribute_map.specs.Data.{changed, steps}
 use Rattle.attributes.specs.Lin.{lin_cell, lin_map}
-use Rattle.attribute_map.proofs.Steps.{After, after_none, after_more}
+use Rattle.attribute_map.proofs.Steps.{after_none, after_more}
 use Rattle.attributes.proofs.lin.attr_lin.Goals as goal
 
 pub loop-i-init : goal.loop-i-init

@@ -1,11 +1,8 @@
-use mathlib.Core.Path.{ap, ◌∙◌}
 use Prim.Native.Nat.{◌≤◌, ◌+◌, ◌-◌}
-use native.Mathlib.Omega.{arith}
-use borrow.Author.Rules.{rules}
 use lib.ListN.{length, get_or}
-use Rattle.attribute_map.specs.Data.{changed, steps}
-use Rattle.attributes.specs.Lin.{lin_cell, lin_map}
-use Rattle.attribute_map.proofs.Steps.{After, after_none, after_more}
+use Rattle.attribute_map.specs.Data.{changed}
+use Rattle.attributes.specs.Lin.{lin_cell}
+use Rattle.attribute_map.proofs.Steps.{After}
 use Rattle.attributes.proofs.lin.attr_lin.Given as goal
 
 abbrev pub invariant-loop-i : goal.invariant-loop-i

@@ -2,7 +2,6 @@
 use mathlib.Core.Path.{◌≡◌}
 use Prim.Native.Nat.{◌%◌}
 use borrow.Author.Tests.{eq-eqb, ne_eqb}
-use borrow.Author.Rules.{rules}
 use lib.Bits.{and_mask}
 use Rattle.bits.proofs.Masks.{bit-set, bit-clear, pair-mask}
 use Rattle.attributes.specs.Lin.{lin_cell}

@@ -1,11 +1,8 @@
 -- Each turn stores what the rule gives for its own cell, and every cell has its turn.
-use Prim.Native.Nat.{◌-◌, ◌≤◌}
 use native.Mathlib.Omega.{arith}
-use borrow.Author.Rules.{rules}
 use Rattle.attribute_map.specs.Map.{cell}
-use Rattle.attribute_map.proofs.Painting.{Painting, painting_none, painting_turn, painting-row, painting_all}
+use Rattle.attribute_map.proofs.Painting.{painting_none, painting_turn, painting-row, painting_all}
 use Rattle.attribute_map.proofs.Sizes.{sized}
-use Rattle.attributes.specs.Lin.{lin_cell}
 use Rattle.attributes.proofs.lin.line.Goals as goal
 
 pub loop-y-init : goal.loop-y-init

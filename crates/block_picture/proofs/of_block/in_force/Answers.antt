@@ -1,5 +1,4 @@
 -- It is byte 9 of the block, and a unit whose preset is there has 1 in it.
-use borrow.Author.Rules.{rules}
 use mathlib.Core.Path.{ap}
 use lib.Dec.{lit<}
 use Rattle.layout.specs.Block.{is_set}

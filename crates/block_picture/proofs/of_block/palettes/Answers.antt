@@ -1,5 +1,4 @@
 -- It is part 4 of the block.
-use borrow.Author.Rules.{rules}
 use lib.Dec.{lit<, lit≤}
 use Rattle.block_picture.specs.Drawn.{parts_of}
 use Rattle.block_picture.proofs.Lent.{lent}

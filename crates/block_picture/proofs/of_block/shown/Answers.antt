@@ -1,5 +1,4 @@
 -- Both captures have their size, so the one that the mode says is shown.
-use borrow.Author.Rules.{rules}
 use Rattle.block_picture.proofs.Lent.{shown-lent}
 use Rattle.block_picture.proofs.of_block.shown.Goals as goal
 

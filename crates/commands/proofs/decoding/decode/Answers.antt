@@ -1,5 +1,5 @@
 -- In each arm the code is known, so the table is looked up by computing; in the last it is none of the table's.
-use Rattle.std.proofs.Common.{◌/◌, get_or, sym, ◌∙◌, rules}
+use Rattle.std.proofs.Common.{◌/◌, get_or, sym, ◌∙◌}
 use Rattle.bits.proofs.Masks.{flag, pair-mask}
 use Rattle.receiver.specs.Count.{code_of}
 use Rattle.commands.specs.Command.{table, find, decode}

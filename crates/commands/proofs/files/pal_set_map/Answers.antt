@@ -1,5 +1,5 @@
 -- The flag asks for the file or leaves the map.
-use Rattle.std.proofs.Common.{◌∙◌, rules}
+use Rattle.std.proofs.Common.{◌∙◌}
 use Rattle.bits.proofs.Masks.{bit-set, bit-clear}
 use Rattle.commands.specs.Files.{pal_set_map}
 use Rattle.commands.proofs.files.pal_set_map.Goals as goal

@@ -1,5 +1,5 @@
 -- At mask 2 the wrapping sum is masked, else the index itself.
-use Rattle.std.proofs.Common.{◌≡◌, ◌%◌, sym, ◌∙◌, rules, eq-eqb, ne_eqb}
+use Rattle.std.proofs.Common.{◌≡◌, ◌%◌, sym, ◌∙◌, eq-eqb, ne_eqb}
 use Rattle.bits.proofs.Masks.{pair-mask}
 use Rattle.commands.specs.Pads.{mlt_index, mlt_req}
 use Rattle.commands.proofs.joypads.mlt_req.Goals as goal

@@ -1,5 +1,5 @@
 -- Unpacked, changed, packed: each call's answer is the next one's question.
-use Rattle.std.proofs.Common.{◌∙◌, rules}
+use Rattle.std.proofs.Common.{◌∙◌}
 use Rattle.commands.specs.Maps.{attr_chr}
 use Rattle.commands.proofs.maps.attr_chr.Goals as goal
 

@@ -1,5 +1,5 @@
 -- Whatever the map held, every cell is told by the command.
-use Rattle.std.proofs.Common.{◌∙◌, rules}
+use Rattle.std.proofs.Common.{◌∙◌}
 use Rattle.commands.specs.Maps.{attr_div}
 use Rattle.commands.proofs.maps.attr_div.Goals as goal
 

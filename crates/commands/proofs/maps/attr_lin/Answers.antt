@@ -1,5 +1,5 @@
 -- Unpacked, changed, packed: each call's answer is the next one's question.
-use Rattle.std.proofs.Common.{◌∙◌, rules}
+use Rattle.std.proofs.Common.{◌∙◌}
 use Rattle.commands.specs.Maps.{attr_lin}
 use Rattle.commands.proofs.maps.attr_lin.Goals as goal
 

@@ -1,5 +1,4 @@
 -- The part that the call hands back tells by its length whether it is there, and the mode tells which it is.
-use borrow.Author.Rules.{rules}
 use mathlib.Core.Path.{sym, ap, ◌∙◌}
 use lib.ListN.{length}
 use borrow.Author.Tests.{eq-eqb, ne_eqb}

@@ -1,5 +1,4 @@
 -- The part that the call hands back tells by its length whether it is there.
-use borrow.Author.Rules.{rules}
 use native.Mathlib.Omega.{arith}
 use mathlib.Core.Path.{sym, ap, ◌∙◌}
 use lib.ListN.{length}

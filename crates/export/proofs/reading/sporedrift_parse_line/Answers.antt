@@ -1,5 +1,4 @@
 -- What the call tells, as a number.
-use borrow.Author.Rules.{rules}
 use mathlib.Core.Path.{sym, ap, ◌∙◌, subst}
 use Rattle.export_answers.specs.Coded.{coded, content, ContentFits}
 use Rattle.export.proofs.Fitting.{line-fits}

@@ -1,5 +1,4 @@
 -- What the call tells, as a number.
-use borrow.Author.Rules.{rules}
 use mathlib.Core.Path.{ap, ◌∙◌}
 use Rattle.export_answers.specs.Coded.{coded, value}
 use Rattle.export_answers.proofs.Fitting.{fits_of}

@@ -1,5 +1,4 @@
 -- What the call tells, as a number.
-use borrow.Author.Rules.{rules}
 use mathlib.Core.Path.{ap, ◌∙◌}
 use Rattle.export_answers.specs.Coded.{coded, truth}
 use Rattle.export.proofs.sending.sporedrift_verdict.Goals as goal

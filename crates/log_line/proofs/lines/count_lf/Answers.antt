@@ -1,10 +1,9 @@
 -- As long as none is counted, no LF went by.
-use Prim.Native.Nat.{◌+◌, ◌-◌, ◌≤◌}
+use Prim.Native.Nat.{◌+◌}
 use mathlib.Core.Path.{◌≡◌, ap, ◌∙◌}
 use native.Mathlib.Omega.{arith}
 use Rattle.log_line.specs.Split.{lf_at, stride}
 use Rattle.log_line.proofs.Splitting.{lf_turn}
-use borrow.Author.Rules.{rules}
 use Rattle.log_line.proofs.lines.count_lf.Goals as goal
 
 pub loop-j-init : goal.loop-j-init

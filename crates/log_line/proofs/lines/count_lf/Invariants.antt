@@ -1,9 +1,6 @@
 use Prim.Native.Nat.{◌+◌, ◌-◌, ◌≤◌}
-use mathlib.Core.Path.{◌≡◌, ap, ◌∙◌}
-use native.Mathlib.Omega.{arith}
+use mathlib.Core.Path.{◌≡◌}
 use Rattle.log_line.specs.Split.{lf_at, stride}
-use Rattle.log_line.proofs.Splitting.{lf_turn}
-use borrow.Author.Rules.{rules}
 use Rattle.log_line.proofs.lines.count_lf.Given as goal
 
 abbrev pub invariant-loop-j : goal.invariant-loop-j

@@ -1,9 +1,7 @@
 use Prim.Native.Nat.{◌-◌, ◌≤◌}
-use mathlib.Core.Path.{◌≡◌, refl, sym, ◌∙◌}
-use native.Mathlib.Omega.{arith}
+use mathlib.Core.Path.{◌≡◌}
 use lib.ListN.{length}
 use Rattle.log_line.specs.Split.{lf_at}
-use borrow.Author.Rules.{rules}
 use Rattle.log_line.proofs.lines.find_lf.Given as goal
 
 abbrev pub invariant-loop-i : goal.invariant-loop-i

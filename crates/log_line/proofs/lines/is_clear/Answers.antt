@@ -1,7 +1,6 @@
 -- Both tests were passed where it is.
 use mathlib.Core.Bool.{false≢true}
 use native.Mathlib.Omega.{arith}
-use borrow.Author.Rules.{rules}
 use borrow.Author.Tests.{eqb-true}
 use Rattle.log_line.proofs.lines.is_clear.Goals as goal
 

@@ -1,7 +1,6 @@
 -- `log_line::lines::split` meets its contract: what comes up to the next LF is copied behind what is held, if all of it has room.
 use native.Mathlib.Omega.{arith}
 use Rattle.log_line.proofs.Splitting.{split-long, split-full, split-copied}
-use borrow.Author.Rules.{rules}
 use Rattle.bits.proofs.Named.{as-value-line_after}
 use Rattle.log_line.proofs.lines.split.Goals as goal
 

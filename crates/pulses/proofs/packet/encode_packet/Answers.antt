@@ -1,11 +1,10 @@
 -- Each turn writes two pulses more of the packet, behind the two of the start, and the stop is the last two.
 use mathlib.Core.Path.{◌≡◌, ◌∙◌}
-use Prim.Native.Nat.{◌+◌, ◌-◌, ◌*◌, ◌≤◌, ◌<◌}
+use Prim.Native.Nat.{◌<◌}
 use native.Mathlib.Omega.{arith}
 use lib.Bits.{mask_lt, and_mask}
-use lib.ListN.{length, set, length-set}
-use Rattle.pulses.specs.Encode.{packet_pulses}
-use Rattle.pulses.proofs.Front.{front, starts, turns, stops}
+use lib.ListN.{set, length-set}
+use Rattle.pulses.proofs.Front.{starts, turns, stops}
 use Rattle.pulses.proofs.packet.encode_packet.Goals as goal
 
 pub bounds-out-1 : goal.bounds-out-1

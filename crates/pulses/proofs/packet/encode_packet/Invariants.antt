@@ -1,10 +1,8 @@
-use mathlib.Core.Path.{◌≡◌, ◌∙◌}
-use Prim.Native.Nat.{◌+◌, ◌-◌, ◌*◌, ◌≤◌, ◌<◌}
-use native.Mathlib.Omega.{arith}
-use lib.Bits.{mask_lt, and_mask}
-use lib.ListN.{length, set, length-set}
+use mathlib.Core.Path.{◌≡◌}
+use Prim.Native.Nat.{◌+◌, ◌-◌, ◌*◌, ◌≤◌}
+use lib.ListN.{length}
 use Rattle.pulses.specs.Encode.{packet_pulses}
-use Rattle.pulses.proofs.Front.{front, starts, turns, stops}
+use Rattle.pulses.proofs.Front.{front}
 use Rattle.pulses.proofs.packet.encode_packet.Given as goal
 
 abbrev pub invariant-loop-k : goal.invariant-loop-k

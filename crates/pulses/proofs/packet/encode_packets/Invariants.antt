@@ -1,12 +1,8 @@
-use borrow.Author.Rules.{rules}
-use mathlib.Core.Path.{◌≡◌, refl, ap, ◌∙◌}
+use mathlib.Core.Path.{◌≡◌}
 use mathlib.Core.List.{◌++◌}
-use Prim.Native.Nat.{◌+◌, ◌-◌, ◌*◌, ◌≤◌, ◌<◌}
-use native.Mathlib.Omega.{arith}
-use lib.ListN.{length, drop, length-drop}
-use lib.Seq.{length-take-le}
+use Prim.Native.Nat.{◌-◌, ◌*◌, ◌≤◌, ◌<◌}
+use lib.ListN.{length, drop}
 use Rattle.pulses.specs.Encode.{pulses_of}
-use Rattle.pulses.proofs.Front.{next_turn, length_so_far}
 use Rattle.pulses.proofs.packet.encode_packets.Given as goal
 
 abbrev pub invariant-loop-p : goal.invariant-loop-p

@@ -1,5 +1,4 @@
 -- The masked shift is the bit.
-use borrow.Author.Rules.{rules}
 use Prim.Native.Nat.{◌/◌, ◌^◌}
 use Rattle.pulses.proofs.Packets.{pulse-zero, pulse-one}
 use Rattle.pulses.proofs.packet.pulse_of.Goals as goal

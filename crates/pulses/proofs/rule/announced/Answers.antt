@@ -1,5 +1,4 @@
 -- The one test is the definition's, and the number is read where it reads it.
-use borrow.Author.Rules.{rules}
 use borrow.Author.Tests.{eq-eqb, ne_eqb}
 use Rattle.bits.specs.Word.{word_at}
 use Rattle.pulses.specs.Verdict.{announced}

@@ -1,5 +1,4 @@
 -- Behind the first test there are at most 360 items; the second is the definition's.
-use borrow.Author.Rules.{rules}
 use mathlib.Core.Path.{sym}
 use Rattle.pulses.specs.Verdict.{brings}
 use Rattle.pulses.proofs.Held.{few_items}

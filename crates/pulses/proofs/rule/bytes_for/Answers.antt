@@ -1,5 +1,4 @@
 -- The tests are the definition's, and a shift by two is a quarter.
-use borrow.Author.Rules.{rules}
 use mathlib.Core.Path.{refl}
 use borrow.Author.Tests.{eq-eqb, ne_eqb}
 use Rattle.pulses.specs.Verdict.{bytes_for}

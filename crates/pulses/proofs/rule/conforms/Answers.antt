@@ -1,5 +1,4 @@
 -- The tests are the definition's, one after the other.
-use borrow.Author.Rules.{rules}
 use mathlib.Core.Path.{sym}
 use borrow.Author.Tests.{le-leb, lt-leb}
 use Rattle.receiver.specs.Count.{code_of}

@@ -1,5 +1,4 @@
 -- The test on the bit index is the definition's.
-use borrow.Author.Rules.{rules}
 use mathlib.Core.Path.{◌∙◌}
 use borrow.Author.Tests.{lt-ltb, le-ltb}
 use Rattle.receiver.specs.Receive.{clocked}

@@ -1,5 +1,4 @@
 -- The bits at and past the index are zero, so setting one adds its power of two, in the low word or in the high one.
-use borrow.Author.Rules.{rules}
 use mathlib.Core.Path.{ap}
 use Prim.Native.Nat.{ℕ, ◌+◌}
 use Rattle.receiver.specs.declared.Receiver.{Receiver}

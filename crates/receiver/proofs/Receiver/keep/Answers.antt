@@ -1,5 +1,4 @@
 -- The test is the definition's, and each arm is its record.
-use borrow.Author.Rules.{rules}
 use borrow.Author.Tests.{le-leb, lt-leb}
 use Rattle.receiver.specs.Receive.{kept}
 use Rattle.receiver.proofs.Receiver.keep.Goals as goal

@@ -1,5 +1,4 @@
 -- The tests are the definition's; the low byte of the low word is the packet's first byte.
-use borrow.Author.Rules.{rules}
 use mathlib.Core.Path.{◌∙◌, sym, ap}
 use Prim.Native.Nat.{◌%◌}
 use lib.Bits.{mask_lt}

@@ -1,5 +1,4 @@
 -- The lines tell the pulse, and what the rule does with that pulse doesn't hang on the order of the tests.
-use borrow.Author.Rules.{rules}
 use mathlib.Core.Path.{◌∙◌, sym}
 use mathlib.Core.Bool.{true}
 use lib.Bits.{mask_lt}

@@ -1,5 +1,4 @@
 -- Each test decides the definition's.
-use borrow.Author.Rules.{rules}
 use Rattle.bits.proofs.Masks.{bit-set, bit-clear}
 use Rattle.receiver.specs.Lines.{p15_high, indexed}
 use Rattle.receiver.proofs.lines.index_after.Goals as goal

@@ -1,11 +1,10 @@
 -- Sixteen turns paste the packet's sixteen bytes.
-use borrow.Author.Rules.{rules}
 use mathlib.Core.Path.{◌≡◌, ap, ◌∙◌}
-use Prim.Native.Nat.{◌*◌, ◌≤◌, ◌-◌}
+use Prim.Native.Nat.{◌*◌}
 use native.Mathlib.Numerals.{add-one}
 use native.Mathlib.Omega.{arith}
 use lib.ListN.{length}
-use lib.Seq.{paste, paste-zero, paste-suc, length-paste}
+use lib.Seq.{paste-zero, paste-suc, length-paste}
 use Rattle.bits.proofs.Overs.{paste-over}
 use Rattle.receiver.specs.Receive.{words}
 use Rattle.receiver.specs.Store.{bytes_of, appended}

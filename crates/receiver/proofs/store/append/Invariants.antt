@@ -1,14 +1,8 @@
-use borrow.Author.Rules.{rules}
-use mathlib.Core.Path.{◌≡◌, ap, ◌∙◌}
-use Prim.Native.Nat.{◌*◌, ◌≤◌, ◌-◌}
-use native.Mathlib.Numerals.{add-one}
-use native.Mathlib.Omega.{arith}
-use lib.ListN.{length}
-use lib.Seq.{paste, paste-zero, paste-suc, length-paste}
-use Rattle.bits.proofs.Overs.{paste-over}
+use mathlib.Core.Path.{◌≡◌}
+use Prim.Native.Nat.{◌≤◌, ◌-◌}
+use lib.Seq.{paste}
 use Rattle.receiver.specs.Receive.{words}
-use Rattle.receiver.specs.Store.{bytes_of, appended}
-use Rattle.receiver.proofs.Words.{length-bytes}
+use Rattle.receiver.specs.Store.{bytes_of}
 use Rattle.receiver.proofs.store.append.Given as goal
 
 abbrev pub invariant-loop-i : goal.invariant-loop-i

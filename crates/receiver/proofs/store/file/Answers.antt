@@ -1,5 +1,4 @@
 -- Each arm knows what was completed, and the definition computes there.
-use borrow.Author.Rules.{rules}
 use mathlib.Core.Path.{refl}
 use Prim.Native.Nat.{◌<◌}
 use native.Mathlib.Omega.{arith}

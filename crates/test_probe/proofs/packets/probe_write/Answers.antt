@@ -1,5 +1,4 @@
 -- What a sound receiver completes has its place in the store.
-use borrow.Author.Rules.{rules}
 use Rattle.receiver.proofs.Sound.{has-place}
 use Rattle.test_probe.proofs.packets.probe_write.Goals as goal
 

@@ -1,9 +1,6 @@
 -- Stores keep the length.
-use borrow.Author.Rules.{rules}
-use mathlib.Core.Path.{◌≡◌}
-use Prim.Native.Nat.{◌≤◌, ◌-◌}
 use native.Mathlib.Omega.{arith}
-use lib.ListN.{length, length-set}
+use lib.ListN.{length-set}
 use Rattle.test_probe.proofs.packets.put_receiver.Goals as goal
 
 pub bounds-next-1 : goal.bounds-next-1

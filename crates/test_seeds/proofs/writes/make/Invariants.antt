@@ -1,7 +1,6 @@
 -- The index stays within the command.
 use mathlib.Core.Path.{◌≡◌}
 use Prim.Native.Nat.{◌≤◌, ◌-◌}
-use borrow.Author.Rules.{rules}
 use lib.ListN.{length}
 use Rattle.test_seeds.proofs.writes.make.Given as goal
 

@@ -1,5 +1,4 @@
 -- The two copies fill the part, one after the other (`map_is`).
-use borrow.Author.Rules.{rules}
 use Rattle.transfer.proofs.Parts.{map_is}
 use Rattle.transfer.proofs.landing.land_map.Goals as goal
 

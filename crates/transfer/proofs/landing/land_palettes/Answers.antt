@@ -1,5 +1,4 @@
 -- The page is written straight into the part.
-use borrow.Author.Rules.{rules}
 use Rattle.transfer.specs.Landing.{palettes_landed}
 use Rattle.transfer.proofs.landing.land_palettes.Goals as goal
 

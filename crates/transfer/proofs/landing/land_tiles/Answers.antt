@@ -1,5 +1,4 @@
 -- The page is written straight into the part.
-use borrow.Author.Rules.{rules}
 use Rattle.transfer.specs.Landing.{tiles_landed}
 use Rattle.transfer.proofs.landing.land_tiles.Goals as goal
 

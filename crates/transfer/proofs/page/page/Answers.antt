@@ -1,6 +1,5 @@
 -- The second pass puts the first one's bytes into the order of the page (`page-is`).
 use native.Mathlib.Omega.{arith}
-use borrow.Author.Rules.{rules}
 use Rattle.transfer.proofs.Pages.{page_is}
 use Rattle.transfer.proofs.page.page.Goals as goal
 

@@ -1,7 +1,6 @@
 -- The two bytes at that place pack the row's eight pixels (`plane-at`).
 use mathlib.Core.Path.{◌≡◌, refl, ◌∙◌}
 use native.Mathlib.Omega.{arith}
-use borrow.Author.Rules.{rules}
 use Rattle.transfer.proofs.Pages.{plane-at}
 use Rattle.transfer.proofs.page.plane_byte.Goals as goal
 

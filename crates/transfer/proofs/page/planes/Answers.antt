@@ -1,9 +1,7 @@
 -- Each turn writes the two plane bytes of one place (`planes-turn`).
-use Prim.Native.Nat.{◌≤◌, ◌-◌, ◌*◌, ◌/◌, ◌%◌}
-use mathlib.Core.Path.{◌≡◌, refl}
+use mathlib.Core.Path.{refl}
 use native.Mathlib.Omega.{arith}
-use lib.ListN.{length, length-set}
-use Rattle.bits.specs.Paint.{Painted}
+use lib.ListN.{length-set}
 use Rattle.bits.proofs.Painting.{painted_none, painted_all, painted-count}
 use Rattle.transfer.specs.Passes.{plane_at, planes_of}
 use Rattle.transfer.proofs.Pages.{planes_turn}

@@ -1,11 +1,8 @@
 use Prim.Native.Nat.{◌≤◌, ◌-◌, ◌*◌, ◌/◌, ◌%◌}
-use mathlib.Core.Path.{◌≡◌, refl}
-use native.Mathlib.Omega.{arith}
-use lib.ListN.{length, length-set}
+use mathlib.Core.Path.{◌≡◌}
+use lib.ListN.{length}
 use Rattle.bits.specs.Paint.{Painted}
-use Rattle.bits.proofs.Painting.{painted_none, painted_all, painted-count}
-use Rattle.transfer.specs.Passes.{plane_at, planes_of}
-use Rattle.transfer.proofs.Pages.{planes_turn}
+use Rattle.transfer.specs.Passes.{plane_at}
 use Rattle.transfer.proofs.page.planes.Given as goal
 
 abbrev pub invariant-loop-k : goal.invariant-loop-k

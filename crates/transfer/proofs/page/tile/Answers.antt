@@ -1,11 +1,8 @@
 -- Each turn copies the two bytes of one row (`tile-turn`).
-use Prim.Native.Nat.{◌≤◌, ◌-◌, ◌*◌}
-use mathlib.Core.Path.{◌≡◌, refl}
+use mathlib.Core.Path.{refl}
 use native.Mathlib.Omega.{arith}
-use lib.ListN.{length, length-set}
-use Rattle.bits.specs.Paint.{Painted}
+use lib.ListN.{length-set}
 use Rattle.bits.proofs.Painting.{painted_none, painted-count}
-use Rattle.transfer.specs.Passes.{tile_byte}
 use Rattle.transfer.proofs.Pages.{tile_turn}
 use Rattle.transfer.proofs.page.tile.Goals as goal
 

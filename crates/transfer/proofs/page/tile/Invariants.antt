@@ -1,11 +1,8 @@
 use Prim.Native.Nat.{◌≤◌, ◌-◌, ◌*◌}
-use mathlib.Core.Path.{◌≡◌, refl}
-use native.Mathlib.Omega.{arith}
-use lib.ListN.{length, length-set}
+use mathlib.Core.Path.{◌≡◌}
+use lib.ListN.{length}
 use Rattle.bits.specs.Paint.{Painted}
-use Rattle.bits.proofs.Painting.{painted_none, painted-count}
 use Rattle.transfer.specs.Passes.{tile_byte}
-use Rattle.transfer.proofs.Pages.{tile_turn}
 use Rattle.transfer.proofs.page.tile.Given as goal
 
 abbrev pub invariant-loop-r : goal.invariant-loop-r

@@ -1,12 +1,8 @@
 -- Each turn adds a tile after those that are there (`tiles-turn`).
-use Prim.Native.Nat.{◌≤◌, ◌-◌, ◌*◌}
-use mathlib.Core.Path.{◌≡◌, refl}
+use mathlib.Core.Path.{refl}
 use native.Mathlib.Omega.{arith}
-use lib.ListN.{length}
-use Rattle.bits.specs.Paint.{Painted}
 use Rattle.bits.proofs.Painting.{painted_none, painted-length, painted-count}
 use Rattle.transfer.specs.Page.{page_bytes}
-use Rattle.transfer.specs.Passes.{tiles_byte}
 use Rattle.transfer.proofs.Pages.{tiles_turn}
 use Rattle.transfer.proofs.page.tiles.Goals as goal
 

@@ -1,5 +1,4 @@
 -- One case each, as in the definition.
-use borrow.Author.Rules.{rules}
 use Rattle.transfer.specs.Pending.{countdown_of}
 use Rattle.transfer.proofs.pending.Pending.countdown.Goals as goal
 

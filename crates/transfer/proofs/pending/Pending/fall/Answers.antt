@@ -1,6 +1,5 @@
 -- A countdown of at most 1 leaves nothing, any other falls by one.
 use borrow.Author.Tests.{le-leb, lt-leb}
-use borrow.Author.Rules.{rules}
 use Rattle.transfer.specs.Pending.{fallen}
 use Rattle.transfer.proofs.pending.Pending.fall.Goals as goal
 

@@ -1,6 +1,5 @@
 -- One case each, as in the definition.
 use mathlib.Core.Path.{◌∙◌}
-use borrow.Author.Rules.{rules}
 use Rattle.transfer.specs.Pending.{kind_of}
 use Rattle.transfer.proofs.pending.Pending.kind.Goals as goal
 

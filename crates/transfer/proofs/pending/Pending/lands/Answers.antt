@@ -1,6 +1,5 @@
 -- A countdown of at most 1 lands its transfer, any other nothing.
 use borrow.Author.Tests.{le-leb, lt-leb}
-use borrow.Author.Rules.{rules}
 use Rattle.transfer.specs.Pending.{lands}
 use Rattle.transfer.proofs.pending.Pending.lands.Goals as goal
 

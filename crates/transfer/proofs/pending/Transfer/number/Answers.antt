@@ -1,5 +1,4 @@
 -- One case each, as in the definition.
-use borrow.Author.Rules.{rules}
 use Rattle.transfer.specs.Pending.{number_of}
 use Rattle.transfer.proofs.pending.Transfer.number.Goals as goal
 
