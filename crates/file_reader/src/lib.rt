@@ -5,7 +5,7 @@
 ghost use Rattle.std.specs.Prelude.{◌≡◌, ◌+◌, ◌≤◌, length, take};
 ghost use Rattle.file_reader.specs.Came.{Came};
 
-use log_writer::Streams;
+use log_writer::{Streams, fail};
 use std::io::Read as _;
 
 // How reading ended: the input did; the buffer is full; a read failed, which has been said.
@@ -78,8 +78,7 @@ fn read_more(streams: Streams, file: &mut [u8], got: usize) -> More
             failed: false,
         },
         Err(e) => {
-            // where that can't be written, the exit status still tells
-            let _ = eprintln!(streams.words; "read: {e}");
+            fail(streams, "read", e);
             More {
                 bytes: 0,
                 failed: true,

@@ -11,7 +11,7 @@ use std::io;
 use std::io::{ErrorKind, Stderr, Stdin, Stdout};
 use std::num::wrapping_add_u64;
 
-// The standard streams, which `main` is given and hands down.
+// The standard streams, which `main` hands down.
 #[derive(Clone, Copy)]
 pub struct Streams {
     pub input: Stdin,
@@ -52,8 +52,7 @@ pub fn write_out(streams: Streams, tally: &mut u64, text: &[u8]) -> bool
     let mut why = io::Error::from(ErrorKind::WriteZero);
     let whole = hand_over(streams.output, tally, text, &mut why);
     if !whole {
-        // where that can't be written either, the exit status still tells
-        let _ = eprintln!(streams.words; "write: {why}");
+        fail(streams, "write", why);
     }
     whole
 }
@@ -89,6 +88,11 @@ fn put(output: Stdout, tally: &mut u64, text: &[u8], why: &mut io::Error) -> usi
     let after = weigh(before, &text[..n]);
     *tally = after;
     n
+}
+
+// Says which call failed, and why. Where that can't be written either nothing more is said, and the exit status still tells.
+pub fn fail(streams: Streams, call: &str, why: io::Error) {
+    let _ = eprintln!(streams.words; "{call}: {why}");
 }
 
 fn weigh(start: u64, text: &[u8]) -> u64
