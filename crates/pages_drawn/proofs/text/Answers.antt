@@ -17,14 +17,14 @@ returns-in-Refused c =
     let line = c.number_line.ensures in
     let told = sym (ap number_told c.in-Refused.is) ∙ asked.ensures.result_value in
     as-value-upper_bound-out_after (rw (text-refused start.args.came.now start.args.screen.now start.requires.0 _ number.result told number.ensures)
-    (line.0, (omega arith, line.1.1)))
+    (line.value, (omega (arith, line.upper_bound), line.out_after)))
 
 pub returns-in-Is : goal.returns-in-Is
 unfolding number_told
 returns-in-Is c =
     let start = c in
     let asked = c.page_screen-answer in
-    let left = asked.new.screen.0 in
+    let left = asked.new.screen in
     let told = sym (ap number_told c.in-Is.is) ∙ asked.ensures.result_value in
     as-value-upper_bound-out_after (rw (text-given start.args.came.now start.args.screen.now start.requires.0 _ left told asked.ensures.screen_after)
     (sym (length_graymap left), (omega arith, graymap_all left start.args.out.now _ start.requires.1 c.graymap.ensures)))
