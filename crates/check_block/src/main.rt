@@ -1,11 +1,24 @@
 // `check`: a saved block on standard input; on standard output one line, `valid`, `1`, or as `23 at 8` the number of the rule that it
 // breaks and the offset of the lowest byte that does. What is printed stands in the contract of `check_saved::check`; here are the buffers
-// that it is lent.
+// that it is lent, and the exit status, 1 where a read or a write failed.
 #![tactic(auto)]
 
-fn main() {
+use log_writer::Streams;
+use std::process::ExitCode;
+
+fn main(rt: HostRuntime) -> ExitCode {
+    let streams = Streams {
+        input: rt.stdin(),
+        output: rt.stdout(),
+        words: rt.stderr(),
+    };
     let mut tally: u64 = 0;
     let mut saved = [0u8; check_saved::SAVED_BYTES];
     let mut line = [0u8; check_saved::LINE_BYTES];
-    check_saved::check(&mut tally, &mut saved, &mut line);
+    let print = check_saved::check(streams, &mut tally, &mut saved, &mut line);
+    if print.whole {
+        ExitCode::SUCCESS
+    } else {
+        ExitCode::FAILURE
+    }
 }

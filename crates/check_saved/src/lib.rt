@@ -13,6 +13,7 @@ ghost use Rattle.check_saved.specs.Lent.{saved_bytes, line_bytes};
 use bits::put;
 use file_reader::{End, Print, Read};
 use log_text::{decimal, number_line};
+use log_writer::Streams;
 use refusal::Refusal;
 
 // What is read at most, which is one byte more than a block has; and room for a line.
@@ -21,13 +22,13 @@ pub const SAVED_BYTES: usize = parts::BLOCK + 1;
 pub const LINE_BYTES: usize = 45;
 
 // Reads a saved block and prints its line. A block that is too long is not read to its end: the line is the same.
-pub fn check(tally: &mut u64, saved: &mut [u8], out: &mut [u8]) -> Print
+pub fn check(streams: Streams, tally: &mut u64, saved: &mut [u8], out: &mut [u8]) -> Print
     requires { (length saved.old ≡ saved_bytes) × (length out.old ≡ line_bytes) }
     ensures came { Came result.got result.end saved.new }
     ensures told { Told check_text result.end result.whole (take result.got saved.new) tally.old tally.new }
 {
-    let read = file_reader::read_file(saved);
-    let whole = print(read, tally, saved, out);
+    let read = file_reader::read_file(streams, saved);
+    let whole = print(read, streams, tally, saved, out);
     let end = read.end;
     Print {
         got: read.got,
@@ -37,7 +38,7 @@ pub fn check(tally: &mut u64, saved: &mut [u8], out: &mut [u8]) -> Print
 }
 
 // By how reading ended.
-fn print(read: Read, tally: &mut u64, saved: &[u8], out: &mut [u8]) -> bool
+fn print(read: Read, streams: Streams, tally: &mut u64, saved: &[u8], out: &mut [u8]) -> bool
     requires came { Came read.got read.end saved.now }
     requires saved_len { (length saved.now ≡ saved_bytes) × (length out.old ≡ line_bytes) }
     ensures { Told check_text read.end result (take read.got saved.now) tally.old tally.new }
@@ -45,18 +46,18 @@ fn print(read: Read, tally: &mut u64, saved: &[u8], out: &mut [u8]) -> bool
     let end = read.end;
     let got = read.got;
     match end {
-        End::Ended => verdict(tally, &saved[0..got], out),
-        End::Full => verdict(tally, &saved[0..got], out),
+        End::Ended => verdict(streams, tally, &saved[0..got], out),
+        End::Full => verdict(streams, tally, &saved[0..got], out),
         End::Failed => false,
     }
 }
 
-fn verdict(tally: &mut u64, came: &[u8], out: &mut [u8]) -> bool
+fn verdict(streams: Streams, tally: &mut u64, came: &[u8], out: &mut [u8]) -> bool
     requires { length out.old ≡ line_bytes }
     ensures { Sent result tally.old (check_text came.now) tally.new }
 {
     let n = verdict_line(view::refusal(came), out);
-    log_writer::write_out(tally, &out[0..n])
+    log_writer::write_out(streams, tally, &out[0..n])
 }
 
 // The line of a refusal at the front of the output. Answers its length.

@@ -5,7 +5,8 @@
 ghost use Rattle.std.specs.Prelude.{◌≡◌, ◌+◌, ◌≤◌, length, take};
 ghost use Rattle.file_reader.specs.Came.{Came};
 
-use libc::STDIN_FILENO;
+use log_writer::{Streams, fail};
+use std::io::Read as _;
 
 // How reading ended: the input did; the buffer is full; a read failed, which has been said.
 #[derive(Clone, Copy)]
@@ -38,12 +39,12 @@ pub struct Print {
 }
 
 // Up to the end of the input or of the buffer: each read brings a byte at least, or is the last.
-pub fn read_file(file: &mut [u8]) -> Read
+pub fn read_file(streams: Streams, file: &mut [u8]) -> Read
     ensures { Came result.got result.end file.new }
 {
     let mut got: usize = 0;
     while got < file.len() {
-        let next = read_more(file, got);
+        let next = read_more(streams, file, got);
         if next.failed {
             return Read {
                 got: got,
@@ -65,21 +66,23 @@ pub fn read_file(file: &mut [u8]) -> Read
 }
 
 // One call of `read`, behind what came, which stays.
-fn read_more(file: &mut [u8], got: usize) -> More
+fn read_more(streams: Streams, file: &mut [u8], got: usize) -> More
     requires { got ≤ length file.old }
     ensures bytes_in_bounds { got + result.bytes ≤ length file.new }
     ensures file_unchanged { take got file.new ≡ take got file.old }
 {
-    let n = libc::read(STDIN_FILENO, &mut file[got..]);
-    if n < 0 {
-        os::fail(b"read");
-        return More {
-            bytes: 0,
-            failed: true,
-        };
-    }
-    More {
-        bytes: io::count(n, &file[got..]),
-        failed: false,
+    let mut input = streams.input;
+    match input.read(&mut file[got..]) {
+        Ok(n) => More {
+            bytes: n,
+            failed: false,
+        },
+        Err(e) => {
+            fail(streams, "read", e);
+            More {
+                bytes: 0,
+                failed: true,
+            }
+        }
     }
 }

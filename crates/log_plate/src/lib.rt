@@ -16,9 +16,10 @@ ghost use Rattle.log_reader.specs.Read.{Printed};
 ghost use Rattle.log_plate.specs.Closed.{Closed};
 
 use log_reader::{Print, Read};
-use log_writer::State;
+use log_writer::{State, Streams};
 
 pub fn plate(
+    streams: Streams,
     tally: &mut u64,
     block: &mut [u8],
     line: &mut [u8],
@@ -31,8 +32,10 @@ pub fn plate(
     requires out_len { (length out.old ≡ out_bytes) × (length chunk.old ≡ chunk_bytes) }
     ensures { (input : List ℕ) × ((length input ≡ result.got) × Printed result.whole result.ended plate_text input tally.old tally.new) }
 {
-    let f = log_reader::read_log(tally, block, line, bytes, command, out, chunk, true);
-    let whole = print(f, tally, block, out);
+    let f = log_reader::read_log(
+        streams, tally, block, line, bytes, command, out, chunk, true,
+    );
+    let whole = print(f, streams, tally, block, out);
     Print {
         got: f.got,
         ended: f.ended,
@@ -41,28 +44,28 @@ pub fn plate(
 }
 
 // The picture where the log has ended, or the line that was refused.
-fn print(read: Read, tally: &mut u64, block: &[u8], out: &mut [u8]) -> bool
+fn print(read: Read, streams: Streams, tally: &mut u64, block: &[u8], out: &mut [u8]) -> bool
     requires valid { Valid block.now × (1 ≤ read.reading.number) }
     requires out_len { length out.old ≡ out_bytes }
     ensures { Closed read.state read.reading block.now result tally.old tally.new }
 {
     let state = read.state;
     match state {
-        State::Well => picture(tally, block, out),
+        State::Well => picture(streams, tally, block, out),
         State::Failed => false,
-        State::Refused => refusal(tally, read.reading.number - 1, out),
+        State::Refused => refusal(streams, tally, read.reading.number - 1, out),
     }
 }
 
-fn refusal(tally: &mut u64, number: u64, out: &mut [u8]) -> bool
+fn refusal(streams: Streams, tally: &mut u64, number: u64, out: &mut [u8]) -> bool
     requires { length out.old ≡ out_bytes }
     ensures { Sent result tally.old (refusal_text number) tally.new }
 {
     let n = log_text::refusal_line(number, out, 0);
-    log_writer::write_out(tally, &out[0..n])
+    log_writer::write_out(streams, tally, &out[0..n])
 }
 
-fn picture(tally: &mut u64, block: &[u8], out: &mut [u8]) -> bool
+fn picture(streams: Streams, tally: &mut u64, block: &[u8], out: &mut [u8]) -> bool
     requires valid { Valid block.now }
     requires out_len { length out.old ≡ out_bytes }
     ensures { Sent result tally.old (picture_lines (load block.now)) tally.new }
@@ -72,10 +75,13 @@ fn picture(tally: &mut u64, block: &[u8], out: &mut [u8]) -> bool
     let mut game = [0u16; 16];
     block_picture::tables(block, &mut spreads, &mut border, &mut game);
     let mut words = [0u16; 256];
-    rows(tally, block, &spreads, &border, &game, &mut words, out)
+    rows(
+        streams, tally, block, &spreads, &border, &game, &mut words, out,
+    )
 }
 
 fn rows(
+    streams: Streams,
     tally: &mut u64,
     block: &[u8],
     spreads: &[u32],
@@ -92,7 +98,7 @@ fn rows(
     let mut y: usize = 0;
     while y < 224 {
         log_chunks::row_line(block, spreads, border, game, y, words, out);
-        if !log_writer::write_out(tally, &out[0..1025]) {
+        if !log_writer::write_out(streams, tally, &out[0..1025]) {
             return false;
         }
         y += 1;

@@ -1,5 +1,5 @@
 // Reading a log from standard input, chunk by chunk, and writing what it tells. Both programs stand on it: `replay` writes the text of
-// each fill, `plate` is quiet up to its end. What is told stands in the contracts of `log`, what is written in the lent tally of
+// each fill, `plate` is quiet up to its end. What is told stands in the contracts of `log_chunks`, what is written in the lent tally of
 // `log_writer`; here are the calls of `read`.
 #![tactic(auto)]
 
@@ -9,9 +9,9 @@ ghost use Rattle.log_chunks.specs.Steps.{Fit, desk};
 ghost use Rattle.log_reader.specs.Fed.{LentSizes, Kept, chunk_bytes, out_bytes, most_lines, most_bytes};
 ghost use Rattle.log_reader.specs.Read.{point, is_well, reads_on, Stands, Turned, Reached};
 
-use libc::{STDERR_FILENO, STDIN_FILENO};
 use log_reading::Reading;
-use log_writer::{State, told};
+use log_writer::{State, Streams, fail, told};
+use std::io::Read as _;
 
 // The bytes of a read, and of the text between two writes. Small, since they stand on the stack.
 pub const CHUNK_BYTES: usize = 1024;
@@ -45,6 +45,7 @@ pub struct Print {
 // All of a log, from a fresh unit on. A proved loop has to end, and nothing says that an input does: the turns are more than a machine
 // makes in thirty years.
 pub fn read_log(
+    streams: Streams,
     tally: &mut u64,
     block: &mut [u8],
     line: &mut [u8],
@@ -69,14 +70,15 @@ pub fn read_log(
     let mut turns: u64 = 1125899906842624;
     while turns > 0 {
         turns -= 1;
-        let next = turn(read, tally, block, line, bytes, command, out, chunk, quiet);
+        let next = turn(
+            read, streams, tally, block, line, bytes, command, out, chunk, quiet,
+        );
         if !goes_on(next) {
             return next;
         }
         read = next;
     }
-    // by the bare call: `io::write_all` holds 4,096 bytes
-    libc::write(STDERR_FILENO, b"the input does not end\n");
+    let _ = eprintln!(streams.words; "the input does not end");
     let reading = read.reading;
     Read {
         reading: reading,
@@ -89,6 +91,7 @@ pub fn read_log(
 // Reads once, and feeds what came.
 fn turn(
     start: Read,
+    streams: Streams,
     tally: &mut u64,
     block: &mut [u8],
     line: &mut [u8],
@@ -103,23 +106,28 @@ fn turn(
     requires out_len { (length out.old ≡ out_bytes) × (length chunk.old ≡ chunk_bytes) }
     ensures { (n : ℕ) × Turned quiet start (point start.reading (desk block.old line.old bytes.old command.old) tally.old) (take n chunk.new) result (point result.reading (desk block.new line.new bytes.new command.new) tally.new) }
 {
-    let got = libc::read(STDIN_FILENO, chunk);
+    let mut input = streams.input;
     let reading = start.reading;
-    if got < 0 {
-        os::fail(b"read");
-        return Read {
-            reading: reading,
-            state: State::Failed,
-            got: start.got,
-            ended: false,
-        };
-    }
-    let n = io::count(got, chunk);
+    let n = match input.read(chunk) {
+        Ok(n) => n,
+        Err(e) => {
+            fail(streams, "read", e);
+            return Read {
+                reading: reading,
+                state: State::Failed,
+                got: start.got,
+                ended: false,
+            };
+        }
+    };
     if n == 0 {
-        return finish(start, tally, block, line, bytes, command, out, quiet);
+        return finish(
+            start, streams, tally, block, line, bytes, command, out, quiet,
+        );
     }
     let f = feed(
         reading,
+        streams,
         tally,
         block,
         line,
@@ -142,6 +150,7 @@ fn turn(
 // The input has ended: a last line that lacks its LF gets it.
 fn finish(
     start: Read,
+    streams: Streams,
     tally: &mut u64,
     block: &mut [u8],
     line: &mut [u8],
@@ -160,6 +169,7 @@ fn finish(
     let k = log_reading::last_lf(reading);
     let f = feed(
         reading,
+        streams,
         tally,
         block,
         line,
@@ -182,6 +192,7 @@ fn finish(
 // What a chunk of the input gives.
 fn feed(
     start: Reading,
+    streams: Streams,
     tally: &mut u64,
     block: &mut [u8],
     line: &mut [u8],
@@ -205,7 +216,7 @@ fn feed(
         at = f.at;
         let next = f.reading;
         reading = next;
-        let state = told(tally, &out[0..size], f.refused, quiet);
+        let state = told(streams, tally, &out[0..size], f.refused, quiet);
         let here = Fed {
             reading: next,
             state: state,

@@ -11,8 +11,10 @@ ghost use Rattle.log_reader.specs.Fed.{LentSizes, chunk_bytes, out_bytes};
 ghost use Rattle.log_reader.specs.Read.{Printed};
 
 use log_reader::Print;
+use log_writer::Streams;
 
 pub fn replay(
+    streams: Streams,
     tally: &mut u64,
     block: &mut [u8],
     line: &mut [u8],
@@ -25,7 +27,9 @@ pub fn replay(
     requires out_len { (length out.old ≡ out_bytes) × (length chunk.old ≡ chunk_bytes) }
     ensures { (input : List ℕ) × ((length input ≡ result.got) × Printed result.whole result.ended replay_text input tally.old tally.new) }
 {
-    let f = log_reader::read_log(tally, block, line, bytes, command, out, chunk, false);
+    let f = log_reader::read_log(
+        streams, tally, block, line, bytes, command, out, chunk, false,
+    );
     if !log_reader::is_told(f) {
         return Print {
             got: f.got,
@@ -33,7 +37,7 @@ pub fn replay(
             whole: false,
         };
     }
-    let whole = head(tally, block, out);
+    let whole = head(streams, tally, block, out);
     Print {
         got: f.got,
         ended: f.ended,
@@ -42,10 +46,10 @@ pub fn replay(
 }
 
 // The block's first 13 bytes.
-fn head(tally: &mut u64, block: &[u8], out: &mut [u8]) -> bool
+fn head(streams: Streams, tally: &mut u64, block: &[u8], out: &mut [u8]) -> bool
     requires { Valid block.now × (length out.old ≡ out_bytes) }
     ensures { Sent result tally.old (head_line block.now) tally.new }
 {
     let n = log_chunks::head_line(block, out);
-    log_writer::write_out(tally, &out[0..n])
+    log_writer::write_out(streams, tally, &out[0..n])
 }

@@ -7,8 +7,17 @@ ghost use Rattle.std.specs.Prelude.{◌≡◌, ◌≤◌, length, take};
 ghost use Rattle.log_writer.specs.Tally.{tallied, Sent};
 ghost use Rattle.log_writer.specs.Told.{ToldAs};
 
-use libc::STDOUT_FILENO;
+use std::io;
+use std::io::{ErrorKind, Stderr, Stdin, Stdout};
 use std::num::wrapping_add_u64;
+
+// The standard streams, which `main` hands down.
+#[derive(Clone, Copy)]
+pub struct Streams {
+    pub input: Stdin,
+    pub output: Stdout,
+    pub words: Stderr,
+}
 
 // All that came is told; a read or a write failed, which has been said; a quiet reading came to a refused line, the one before the
 // reading's next.
@@ -20,7 +29,7 @@ pub enum State {
 }
 
 // How it stands behind a fill: a quiet reading goes on up to a refused line, the other one while its text can be written.
-pub fn told(tally: &mut u64, text: &[u8], refused: bool, quiet: bool) -> State
+pub fn told(streams: Streams, tally: &mut u64, text: &[u8], refused: bool, quiet: bool) -> State
     ensures { ToldAs quiet refused tally.old text.now result tally.new }
 {
     if quiet {
@@ -29,7 +38,7 @@ pub fn told(tally: &mut u64, text: &[u8], refused: bool, quiet: bool) -> State
         }
         return State::Well;
     }
-    if write_out(tally, text) {
+    if write_out(streams, tally, text) {
         State::Well
     } else {
         State::Failed
@@ -37,24 +46,24 @@ pub fn told(tally: &mut u64, text: &[u8], refused: bool, quiet: bool) -> State
 }
 
 // Writes all of a text, or as much as can be, and then says that it could not. Answers whether it was all.
-pub fn write_out(tally: &mut u64, text: &[u8]) -> bool
+pub fn write_out(streams: Streams, tally: &mut u64, text: &[u8]) -> bool
     ensures { Sent result tally.old text.now tally.new }
 {
-    let whole = hand_over(tally, text);
+    let mut why = io::Error::from(ErrorKind::WriteZero);
+    let whole = hand_over(streams.output, tally, text, &mut why);
     if !whole {
-        os::fail(b"write");
+        fail(streams, "write", why);
     }
     whole
 }
 
-// By its own loop: `io::write_all` holds 4,096 bytes for a write that comes short, which would stand on the stack beneath the programs'
-// buffers.
-fn hand_over(tally: &mut u64, text: &[u8]) -> bool
+// By its own loop: std's `write_all` does not tell how much of a text went out before a write failed.
+fn hand_over(output: Stdout, tally: &mut u64, text: &[u8], why: &mut io::Error) -> bool
     ensures { Sent result tally.old text.now tally.new }
 {
     let mut done: usize = 0;
     while done < text.len() {
-        let n = put(tally, &text[done..]);
+        let n = put(output, tally, &text[done..], why);
         if n == 0 {
             return false;
         }
@@ -64,15 +73,26 @@ fn hand_over(tally: &mut u64, text: &[u8]) -> bool
 }
 
 // One call of `write`, the only one to standard output: the tally goes on by the bytes that it took. That these are the bytes that it
-// was handed is read off these lines.
-fn put(tally: &mut u64, text: &[u8]) -> usize
+// was handed is read off these lines. Where it fails it took none, and `why` is its error.
+fn put(output: Stdout, tally: &mut u64, text: &[u8], why: &mut io::Error) -> usize
     ensures { (result ≤ length text.now) × (tally.new ≡ tallied tally.old (take result text.now)) }
 {
-    let n = io::count(libc::write(STDOUT_FILENO, text), text);
+    let n = match output.write_some(text) {
+        Ok(n) => n,
+        Err(e) => {
+            *why = e;
+            0
+        }
+    };
     let before = *tally;
     let after = weigh(before, &text[..n]);
     *tally = after;
     n
+}
+
+// Says which call failed, and why. Where that can't be written either nothing more is said, and the exit status still tells.
+pub fn fail(streams: Streams, call: &str, why: io::Error) {
+    let _ = eprintln!(streams.words; "{call}: {why}");
 }
 
 fn weigh(start: u64, text: &[u8]) -> u64

@@ -1,11 +1,25 @@
 // `page`: a page on standard input; on standard output the picture of the screen that carries it, or `10`. What is printed stands in the
-// contract of `pages_drawn::draw`; here are the buffers that it is lent.
+// contract of `pages_drawn::draw`; here are the buffers that it is lent, and the exit status,
+// 1 where a read or a write failed.
 #![tactic(auto)]
 
-fn main() {
+use log_writer::Streams;
+use std::process::ExitCode;
+
+fn main(rt: HostRuntime) -> ExitCode {
+    let streams = Streams {
+        input: rt.stdin(),
+        output: rt.stdout(),
+        words: rt.stderr(),
+    };
     let mut tally: u64 = 0;
     let mut input = [0u8; pages_drawn::INPUT_BYTES];
     let mut screen = [0u8; pages_drawn::SCREEN_BYTES];
     let mut out = [0u8; pages_drawn::FILE_BYTES];
-    pages_drawn::draw(&mut tally, &mut input, &mut screen, &mut out);
+    let print = pages_drawn::draw(streams, &mut tally, &mut input, &mut screen, &mut out);
+    if print.whole {
+        ExitCode::SUCCESS
+    } else {
+        ExitCode::FAILURE
+    }
 }

@@ -16,6 +16,7 @@ ghost use Rattle.pages_drawn.specs.Lent.{input_bytes, file_bytes};
 use bits::put;
 use file_reader::{End, Print, Read};
 use log_text::number_line;
+use log_writer::Streams;
 use screen::pair_at;
 use transfer::page::PAGE_BYTES;
 use view::Number;
@@ -28,13 +29,19 @@ pub const SCREEN_BYTES: usize = parts::CAPTURE_BYTES;
 pub const FILE_BYTES: usize = 15 + 4 * SCREEN_BYTES;
 
 // Reads a page and prints the graymap of its screen. An input that is too long is not read to its end: the line is the same.
-pub fn draw(tally: &mut u64, input: &mut [u8], screen: &mut [u8], out: &mut [u8]) -> Print
+pub fn draw(
+    streams: Streams,
+    tally: &mut u64,
+    input: &mut [u8],
+    screen: &mut [u8],
+    out: &mut [u8],
+) -> Print
     requires { (length input.old ≡ input_bytes) × ((length screen.old ≡ capture_bytes) × (length out.old ≡ file_bytes)) }
     ensures came { Came result.got result.end input.new }
     ensures told { Told page_text result.end result.whole (take result.got input.new) tally.old tally.new }
 {
-    let read = file_reader::read_file(input);
-    let whole = print(read, tally, input, screen, out);
+    let read = file_reader::read_file(streams, input);
+    let whole = print(read, streams, tally, input, screen, out);
     let end = read.end;
     Print {
         got: read.got,
@@ -44,7 +51,14 @@ pub fn draw(tally: &mut u64, input: &mut [u8], screen: &mut [u8], out: &mut [u8]
 }
 
 // By how reading ended.
-fn print(read: Read, tally: &mut u64, input: &[u8], screen: &mut [u8], out: &mut [u8]) -> bool
+fn print(
+    read: Read,
+    streams: Streams,
+    tally: &mut u64,
+    input: &[u8],
+    screen: &mut [u8],
+    out: &mut [u8],
+) -> bool
     requires came { Came read.got read.end input.now }
     requires input_len { (length input.now ≡ input_bytes) × ((length screen.old ≡ capture_bytes) × (length out.old ≡ file_bytes)) }
     ensures { Told page_text read.end result (take read.got input.now) tally.old tally.new }
@@ -52,19 +66,19 @@ fn print(read: Read, tally: &mut u64, input: &[u8], screen: &mut [u8], out: &mut
     let end = read.end;
     let got = read.got;
     match end {
-        End::Ended => tell(tally, &input[0..got], screen, out),
-        End::Full => tell(tally, &input[0..got], screen, out),
+        End::Ended => tell(streams, tally, &input[0..got], screen, out),
+        End::Full => tell(streams, tally, &input[0..got], screen, out),
         End::Failed => false,
     }
 }
 
 // Writes what is due of a whole input.
-fn tell(tally: &mut u64, came: &[u8], screen: &mut [u8], out: &mut [u8]) -> bool
+fn tell(streams: Streams, tally: &mut u64, came: &[u8], screen: &mut [u8], out: &mut [u8]) -> bool
     requires { (length screen.old ≡ capture_bytes) × (length out.old ≡ file_bytes) }
     ensures { Sent result tally.old (page_text came.now) tally.new }
 {
     let n = text(came, screen, out);
-    log_writer::write_out(tally, &out[0..n])
+    log_writer::write_out(streams, tally, &out[0..n])
 }
 
 // The graymap of a page's screen, or the line of its refusal, at the front of the output. Answers its length.

@@ -1,8 +1,17 @@
 // `plate`: a log on standard input; the picture at its end on standard output, 224 lines of 256 words, or the first refused line alone.
-// What is printed stands in the contract of `log_plate::plate`; here are the buffers that it is lent.
+// What is printed stands in the contract of `log_plate::plate`; here are the buffers that it is lent, and the exit status, 1 where
+// a read or a write failed.
 #![tactic(auto)]
 
-fn main() {
+use log_writer::Streams;
+use std::process::ExitCode;
+
+fn main(rt: HostRuntime) -> ExitCode {
+    let streams = Streams {
+        input: rt.stdin(),
+        output: rt.stdout(),
+        words: rt.stderr(),
+    };
     let mut tally: u64 = 0;
     let mut block = [0u8; parts::BLOCK];
     let mut line = [0u8; log_line::LINE_DIGITS];
@@ -10,7 +19,8 @@ fn main() {
     let mut command = [0u8; parts::STORE_BYTES];
     let mut out = [0u8; log_reader::OUT_BYTES];
     let mut chunk = [0u8; log_reader::CHUNK_BYTES];
-    log_plate::plate(
+    let print = log_plate::plate(
+        streams,
         &mut tally,
         &mut block,
         &mut line,
@@ -19,4 +29,9 @@ fn main() {
         &mut out,
         &mut chunk,
     );
+    if print.whole {
+        ExitCode::SUCCESS
+    } else {
+        ExitCode::FAILURE
+    }
 }

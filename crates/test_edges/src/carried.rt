@@ -8,43 +8,43 @@ use crate::replays::played;
 use crate::screens::show;
 use crate::text::say;
 use crate::{blocks, text};
-use libc::STDOUT_FILENO;
+use std::io::Stdout;
 use transfer::page::PAGE_BYTES;
 use view::Number;
 
-pub fn examples(block: &mut [u8])
+pub fn examples(stdout: Stdout, block: &mut [u8])
     requires { length block.old ≡ block_bytes }
 {
     // the first pixel is bit 7: shade 1 by the low plane's byte, 2 by the high plane's
-    carried(0, 0x80, 0, 0);
-    carried(0, 0, 0x80, 0);
+    carried(stdout, 0, 0x80, 0, 0);
+    carried(stdout, 0, 0, 0x80, 0);
     // the shades 0 to 3, twice, as in RULES 10.1; the next tile stands beside them, and the 21st beneath
-    carried(0, 0x55, 0x33, 0);
-    carried(16, 0x55, 0x33, 2);
-    carried(320, 0x55, 0x33, 320);
+    carried(stdout, 0, 0x55, 0x33, 0);
+    carried(stdout, 16, 0x55, 0x33, 2);
+    carried(stdout, 320, 0x55, 0x33, 320);
     // the last pixel of tile 255: column 127 of row 103
-    carried(4094, 0, 1, 4150);
-    full();
+    carried(stdout, 4094, 0, 1, 4150);
+    full(stdout);
     // a page of another length comes before an output that is short
-    refused(PAGE_BYTES - 1, parts::CAPTURE_BYTES);
-    refused(PAGE_BYTES + 1, parts::CAPTURE_BYTES);
-    refused(PAGE_BYTES - 1, parts::CAPTURE_BYTES - 1);
-    refused(PAGE_BYTES, parts::CAPTURE_BYTES - 1);
-    lands(block);
+    refused(stdout, PAGE_BYTES - 1, parts::CAPTURE_BYTES);
+    refused(stdout, PAGE_BYTES + 1, parts::CAPTURE_BYTES);
+    refused(stdout, PAGE_BYTES - 1, parts::CAPTURE_BYTES - 1);
+    refused(stdout, PAGE_BYTES, parts::CAPTURE_BYTES - 1);
+    lands(stdout, block);
 }
 
-fn carried(at: usize, low: u8, high: u8, shown: usize)
+fn carried(stdout: Stdout, at: usize, low: u8, high: u8, shown: usize)
     requires { (at + 1 < page_bytes) × (shown + 2 ≤ capture_bytes) }
 {
     let page = two(at, low, high);
     let mut screen = [0u8; parts::CAPTURE_BYTES];
     pages::page_screen(&page, &mut screen);
-    say(b"page byte ");
-    io::print_decimal(STDOUT_FILENO, at as u64);
-    say(b", screen byte ");
-    io::print_decimal(STDOUT_FILENO, shown as u64);
-    say(b": ");
-    text::line(&screen[shown..shown + 2]);
+    say(stdout, b"page byte ");
+    text::number(stdout, at as u64);
+    say(stdout, b", screen byte ");
+    text::number(stdout, shown as u64);
+    say(stdout, b": ");
+    text::line(stdout, &screen[shown..shown + 2]);
 }
 
 // A page of zeros but for two bytes.
@@ -58,41 +58,48 @@ fn two(at: usize, low: u8, high: u8) -> [u8; PAGE_BYTES]
 }
 
 // Shade 3 all over the page, in an output with two bytes too many: where tile 255 ends, and where the screen does.
-fn full() {
+fn full(stdout: Stdout) {
     let page = [0xFFu8; PAGE_BYTES];
     let mut out = [0xAAu8; parts::CAPTURE_BYTES + 2];
-    tell(pages::page_screen(&page, &mut out));
-    text::line(&out[4150..4154]);
-    text::line(&out[5758..5762]);
+    tell(stdout, pages::page_screen(&page, &mut out));
+    text::line(stdout, &out[4150..4154]);
+    text::line(stdout, &out[5758..5762]);
 }
 
-fn refused(bytes: usize, room: usize)
+fn refused(stdout: Stdout, bytes: usize, room: usize)
     requires { (bytes ≤ page_bytes + 1) × (room ≤ capture_bytes) }
 {
     let page = [0u8; PAGE_BYTES + 1];
     let mut screen = [0u8; parts::CAPTURE_BYTES];
-    tell(pages::page_screen(&page[0..bytes], &mut screen[0..room]));
+    tell(
+        stdout,
+        pages::page_screen(&page[0..bytes], &mut screen[0..room]),
+    );
 }
 
-fn tell(told: Number) {
+fn tell(stdout: Stdout, told: Number) {
     match told {
-        Number::Refused(r) => blocks::tell(r),
+        Number::Refused(r) => blocks::tell(stdout, r),
         Number::Is(n) => {
-            io::print_decimal(STDOUT_FILENO, n as u64);
-            say(b" bytes\n");
+            text::number(stdout, n as u64);
+            say(stdout, b" bytes\n");
         }
     }
 }
 
 // A first colour of 1234 hex; the two screens before it are blank.
-fn lands(block: &mut [u8])
+fn lands(stdout: Stdout, block: &mut [u8])
     requires { length block.old ≡ block_bytes }
 {
-    played(&[0x59, 0, 0, 0, 0, 0, 0, 0, 0, 0, 0, 0, 0, 0, 0, 0], block);
+    played(
+        stdout,
+        &[0x59, 0, 0, 0, 0, 0, 0, 0, 0, 0, 0, 0, 0, 0, 0, 0],
+        block,
+    );
     let page = two(0, 0x34, 0x12);
     let mut screen = [0u8; parts::CAPTURE_BYTES];
-    show(&screen, block, parts::SYSTEM);
-    show(&screen, block, parts::SYSTEM);
+    show(stdout, &screen, block, parts::SYSTEM);
+    show(stdout, &screen, block, parts::SYSTEM);
     pages::page_screen(&page, &mut screen);
-    show(&screen, block, parts::SYSTEM);
+    show(stdout, &screen, block, parts::SYSTEM);
 }

@@ -2,104 +2,108 @@
 // (A module can't have the name of a crate that is used.) A state is one row of bytes here: `spans` has the places.
 use crate::{blocks, spans, text};
 use bits::{all_zero, put};
-use check::same;
-use libc::STDOUT_FILENO;
+use std::io::Stdout;
 use view::Number;
 
-pub fn examples(block: &mut [u8]) {
+pub fn examples(stdout: Stdout, block: &mut [u8]) {
     unit::new(block);
-    there_and_back(block);
-    frozen(block);
-    border(block);
-    forgotten(block);
-    refused(block);
+    there_and_back(stdout, block);
+    frozen(stdout, block);
+    border(stdout, block);
+    forgotten(stdout, block);
+    refused(stdout, block);
 }
 
-fn there_and_back(block: &[u8]) {
-    let row = goes_out(block);
+fn there_and_back(stdout: Stdout, block: &[u8]) {
+    let row = goes_out(stdout, block);
     let mut other = [0u8; parts::BLOCK];
-    comes_in(&mut other, &row, spans::NEW);
-    whether(same(block, &other), b"the same block\n");
+    comes_in(stdout, &mut other, &row, spans::NEW);
+    whether(stdout, block == other.as_slice(), b"the same block\n");
 }
 
 // A frozen capture, of the shades 0 to 3 and then of nothing but 0, and the mask that goes with it.
-fn frozen(block: &[u8]) {
-    let mut row = goes_out(block);
+fn frozen(stdout: Stdout, block: &[u8]) {
+    let mut row = goes_out(stdout, block);
     row[parts::MASK] = 1;
     row[spans::FROZEN + 1] = 1;
     row[spans::FROZEN + 2] = 2;
     row[spans::FROZEN + 3] = 3;
     let mut other = [0u8; parts::BLOCK];
-    comes_in(&mut other, &row, spans::NEW + 128);
-    text::line(part(&other, 0, 13));
-    text::line(part(&other, parts::FROZEN, parts::FROZEN + 2));
-    let again = goes_out(&other);
-    whether(same(&row, &again), b"the same state\n");
+    comes_in(stdout, &mut other, &row, spans::NEW + 128);
+    text::line(stdout, part(&other, 0, 13));
+    text::line(stdout, part(&other, parts::FROZEN, parts::FROZEN + 2));
+    let again = goes_out(stdout, &other);
+    whether(stdout, row == again, b"the same state\n");
 }
 
 // A border, and then without its map.
-fn border(block: &[u8]) {
-    let mut row = goes_out(block);
+fn border(stdout: Stdout, block: &[u8]) {
+    let mut row = goes_out(stdout, block);
     row[spans::TILES] = 0x55;
     let mut other = [0u8; parts::BLOCK];
-    comes_in(&mut other, &row, spans::NEW);
-    text::line(part(&other, parts::TILES, parts::TILES + 2));
-    comes_in(&mut other, &row, spans::NEW - 1024);
+    comes_in(stdout, &mut other, &row, spans::NEW);
+    text::line(stdout, part(&other, parts::TILES, parts::TILES + 2));
+    comes_in(stdout, &mut other, &row, spans::NEW - 1024);
     whether(
+        stdout,
         all_zero(part(&other, parts::TILES, parts::BLOCK)),
         b"a border of zeros\n",
     );
-    let again = goes_out(&other);
+    let again = goes_out(stdout, &other);
     whether(
+        stdout,
         all_zero(part(&again, spans::TILES, spans::ROW)),
         b"three spans of zeros\n",
     );
 }
 
 // A kind beside a countdown of 0, and the high bits of a shade.
-fn forgotten(block: &[u8]) {
-    let mut row = goes_out(block);
+fn forgotten(stdout: Stdout, block: &[u8]) {
+    let mut row = goes_out(stdout, block);
     let mut other = [0u8; parts::BLOCK];
     row[parts::KIND] = 3;
-    comes_in(&mut other, &row, spans::NEW);
-    text::line(part(&other, 0, 13));
+    comes_in(stdout, &mut other, &row, spans::NEW);
+    text::line(stdout, part(&other, 0, 13));
     row[parts::KIND] = 0;
     row[spans::CAPTURE] = 0xFF;
-    comes_in(&mut other, &row, spans::NEW);
-    text::line(part(&other, parts::LIVE, parts::LIVE + 2));
+    comes_in(stdout, &mut other, &row, spans::NEW);
+    text::line(stdout, part(&other, parts::LIVE, parts::LIVE + 2));
 }
 
 // No capture; a cell that is no palette number; an idle receiver with a data bit.
-fn refused(block: &[u8]) {
-    let mut row = goes_out(block);
+fn refused(stdout: Stdout, block: &[u8]) {
+    let mut row = goes_out(stdout, block);
     let mut other = [0u8; parts::BLOCK];
-    comes_in(&mut other, &row, spans::NEW - 64);
+    comes_in(stdout, &mut other, &row, spans::NEW - 64);
     row[spans::MAP] = 4;
-    comes_in(&mut other, &row, spans::NEW);
+    comes_in(stdout, &mut other, &row, spans::NEW);
     row[spans::MAP] = 0;
     row[parts::BITS] = 1;
-    comes_in(&mut other, &row, spans::NEW);
+    comes_in(stdout, &mut other, &row, spans::NEW);
 }
 
 // No packet is in, so the packets have no bytes.
-fn comes_in(block: &mut [u8], row: &[u8], present: u16) {
-    blocks::tell(state::from_state(
-        block,
-        part(row, 0, spans::PALETTES),
-        present,
-        part(row, spans::PALETTES, spans::MAP),
-        part(row, spans::MAP, spans::SYSTEM),
-        part(row, spans::SYSTEM, spans::FILES),
-        part(row, spans::FILES, spans::PACKET),
-        part(row, spans::PACKET, spans::PACKETS),
-        part(row, spans::PACKETS, spans::PACKETS),
-        part(row, spans::CAPTURE, spans::FROZEN),
-        part(row, spans::FROZEN, spans::PRESET),
-        part(row, spans::PRESET, spans::TILES),
-        part(row, spans::TILES, spans::BORDER_MAP),
-        part(row, spans::BORDER_MAP, spans::BORDER_PALETTES),
-        part(row, spans::BORDER_PALETTES, spans::ROW),
-    ));
+fn comes_in(stdout: Stdout, block: &mut [u8], row: &[u8], present: u16) {
+    blocks::tell(
+        stdout,
+        state::from_state(
+            block,
+            part(row, 0, spans::PALETTES),
+            present,
+            part(row, spans::PALETTES, spans::MAP),
+            part(row, spans::MAP, spans::SYSTEM),
+            part(row, spans::SYSTEM, spans::FILES),
+            part(row, spans::FILES, spans::PACKET),
+            part(row, spans::PACKET, spans::PACKETS),
+            part(row, spans::PACKETS, spans::PACKETS),
+            part(row, spans::CAPTURE, spans::FROZEN),
+            part(row, spans::FROZEN, spans::PRESET),
+            part(row, spans::PRESET, spans::TILES),
+            part(row, spans::TILES, spans::BORDER_MAP),
+            part(row, spans::BORDER_MAP, spans::BORDER_PALETTES),
+            part(row, spans::BORDER_PALETTES, spans::ROW),
+        ),
+    );
 }
 
 pub fn part(bytes: &[u8], from: usize, to: usize) -> &[u8] {
@@ -113,7 +117,7 @@ pub fn part(bytes: &[u8], from: usize, to: usize) -> &[u8] {
 }
 
 // A span that is missing is zeros in the row.
-fn goes_out(block: &[u8]) -> [u8; spans::ROW] {
+fn goes_out(stdout: Stdout, block: &[u8]) -> [u8; spans::ROW] {
     let mut fields = [0u8; spans::PALETTES];
     let mut palettes = [0u8; parts::PALETTES_BYTES];
     let mut map = [0u8; 4 * parts::MAP_BYTES];
@@ -127,22 +131,25 @@ fn goes_out(block: &[u8]) -> [u8; spans::ROW] {
     let mut tiles = [0u8; parts::TILES_BYTES];
     let mut border_map = [0u8; parts::BORDER_MAP_BYTES];
     let mut border_palettes = [0u8; parts::BORDER_PALETTES_BYTES];
-    tell(state::to_state(
-        block,
-        &mut fields,
-        &mut palettes,
-        &mut map,
-        &mut system,
-        &mut files,
-        &mut packet,
-        &mut packets,
-        &mut capture,
-        &mut frozen,
-        &mut preset,
-        &mut tiles,
-        &mut border_map,
-        &mut border_palettes,
-    ));
+    tell(
+        stdout,
+        state::to_state(
+            block,
+            &mut fields,
+            &mut palettes,
+            &mut map,
+            &mut system,
+            &mut files,
+            &mut packet,
+            &mut packets,
+            &mut capture,
+            &mut frozen,
+            &mut preset,
+            &mut tiles,
+            &mut border_map,
+            &mut border_palettes,
+        ),
+    );
     in_a_row(
         &fields,
         &palettes,
@@ -201,20 +208,20 @@ fn lay(row: &mut [u8], at: usize, span: &[u8]) {
     }
 }
 
-fn tell(told: Number) {
+fn tell(stdout: Stdout, told: Number) {
     match told {
-        Number::Refused(r) => blocks::tell(r),
+        Number::Refused(r) => blocks::tell(stdout, r),
         Number::Is(present) => {
-            io::write_all(STDOUT_FILENO, b"out, presence ");
-            io::print_decimal(STDOUT_FILENO, present as u64);
-            io::write_all(STDOUT_FILENO, b"\n");
+            text::say(stdout, b"out, presence ");
+            text::number(stdout, present as u64);
+            text::say(stdout, b"\n");
         }
     }
 }
 
-fn whether(is: bool, what: &[u8]) {
+fn whether(stdout: Stdout, is: bool, what: &[u8]) {
     if !is {
-        io::write_all(STDOUT_FILENO, b"not ");
+        text::say(stdout, b"not ");
     }
-    io::write_all(STDOUT_FILENO, what);
+    text::say(stdout, what);
 }

@@ -12,13 +12,14 @@ mod spans;
 mod text;
 mod verdicts;
 
-fn main() {
+fn main(rt: HostRuntime) {
+    let stdout = rt.stdout();
     let mut block = [0u8; parts::BLOCK];
-    replays::examples(&mut block);
-    maps::examples(&mut block);
-    screens::examples(&mut block);
-    blocks::examples(&mut block);
-    emulator::examples(&mut block);
-    verdicts::examples(&mut block);
-    carried::examples(&mut block);
+    replays::examples(stdout, &mut block);
+    maps::examples(stdout, &mut block);
+    screens::examples(stdout, &mut block);
+    blocks::examples(stdout, &mut block);
+    emulator::examples(stdout, &mut block);
+    verdicts::examples(stdout, &mut block);
+    carried::examples(stdout, &mut block);
 }

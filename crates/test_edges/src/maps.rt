@@ -3,52 +3,56 @@ ghost use Rattle.std.specs.Prelude.{◌≡◌, length};
 ghost use Rattle.parts.specs.Parts.{block_bytes, map_bytes};
 
 use crate::replays::command;
-use libc::STDOUT_FILENO;
+use crate::text;
+use std::io::Stdout;
 
-pub fn examples(block: &mut [u8])
+pub fn examples(stdout: Stdout, block: &mut [u8])
     requires { length block.old ≡ block_bytes }
 {
     // ATTR_CHR, two cells from the map's last one on: the second pair falls off the map
     show(
+        stdout,
         &[0x39, 19, 17, 2, 0, 0, 0xF0, 0, 0, 0, 0, 0, 0, 0, 0, 0],
         block,
     );
     // ATTR_BLK with one corner twice, set inside alone: the line follows inside, and is that cell
     show(
+        stdout,
         &[0x21, 1, 1, 0x02, 3, 3, 3, 3, 0, 0, 0, 0, 0, 0, 0, 0],
         block,
     );
     // ATTR_BLK with its corners crossed, set outside alone: every cell is outside
     show(
+        stdout,
         &[0x21, 1, 4, 0x10, 5, 0, 4, 17, 0, 0, 0, 0, 0, 0, 0, 0],
         block,
     );
 }
 
-fn show(d: &[u8], block: &mut [u8])
+fn show(stdout: Stdout, d: &[u8], block: &mut [u8])
     requires { length block.old ≡ block_bytes }
 {
-    command(d, block);
-    rows(&block[parts::MAP..parts::SYSTEM]);
+    command(stdout, d, block);
+    rows(stdout, &block[parts::MAP..parts::SYSTEM]);
 }
 
-fn rows(map: &[u8])
+fn rows(stdout: Stdout, map: &[u8])
     requires { length map.now ≡ map_bytes }
 {
     let mut y: usize = 0;
     while y < 18 {
-        row(&map[5 * y..5 * y + 5]);
+        row(stdout, &map[5 * y..5 * y + 5]);
         y += 1;
     }
 }
 
 // A row's five packed bytes.
-pub fn row(packed: &[u8])
+pub fn row(stdout: Stdout, packed: &[u8])
     requires { length packed.now ≡ 5 }
 {
     let mut line = [b'\n'; 21];
     for x in 0..20 {
         line[x] = b'0' | bits::pair(packed[x / 4], (x % 4) as u8);
     }
-    io::write_all(STDOUT_FILENO, &line);
+    text::say(stdout, &line);
 }

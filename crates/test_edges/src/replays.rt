@@ -4,38 +4,41 @@ ghost use Rattle.std.specs.Prelude.{◌≡◌, length};
 ghost use Rattle.parts.specs.Parts.{block_bytes};
 
 use crate::text;
+use std::io::Stdout;
 use unit::{Played, Written};
 
-pub fn examples(block: &mut [u8])
+pub fn examples(stdout: Stdout, block: &mut [u8])
     requires { length block.old ≡ block_bytes }
 {
     // a start pulse, a release and a data bit: bit index 1
-    replay(&[0x00, 0x30, 0x20], block);
+    replay(stdout, &[0x00, 0x30, 0x20], block);
     // no release between: bit index 0
-    replay(&[0x00, 0x20], block);
+    replay(stdout, &[0x00, 0x20], block);
     // MASK_EN to black, as pulses
     command(
+        stdout,
         &[0xB9, 0x02, 0, 0, 0, 0, 0, 0, 0, 0, 0, 0, 0, 0, 0, 0],
         block,
     );
     // the same in one call: 259 writes are taken, and the release behind the stop pulse is left
     played(
+        stdout,
         &[0xB9, 0x02, 0, 0, 0, 0, 0, 0, 0, 0, 0, 0, 0, 0, 0, 0],
         block,
     );
 }
 
 // A command of one packet, sent by its pulses.
-pub fn command(d: &[u8], block: &mut [u8])
+pub fn command(stdout: Stdout, d: &[u8], block: &mut [u8])
     requires { length block.old ≡ block_bytes }
 {
     let mut pulses = [0u8; 260];
     pulses::encode(d, &mut pulses);
-    replay(&pulses, block);
+    replay(stdout, &pulses, block);
 }
 
 // A command of one packet or two by writes in a row: how many were taken, the command, and the block's first 13 bytes.
-pub fn played(d: &[u8], block: &mut [u8])
+pub fn played(stdout: Stdout, d: &[u8], block: &mut [u8])
     requires { length block.old ≡ block_bytes }
 {
     unit::post_boot(block);
@@ -43,43 +46,43 @@ pub fn played(d: &[u8], block: &mut [u8])
     pulses::encode(d, &mut pulses);
     let mut command = [0u8; parts::STORE_BYTES];
     let told = unit::play(block, &pulses, &mut command);
-    counted(told, &command);
-    text::line(&block[0..13]);
+    counted(stdout, told, &command);
+    text::line(stdout, &block[0..13]);
 }
 
-fn counted(told: Played, command: &[u8]) {
+fn counted(stdout: Stdout, told: Played, command: &[u8]) {
     let Played::Command(at, n) = told else {
         return;
     };
     let number = [(at / 256 % 256) as u8, (at % 256) as u8];
-    text::line(&number);
-    show(Written::Command(n), command);
+    text::line(stdout, &number);
+    show(stdout, Written::Command(n), command);
 }
 
-fn replay(writes: &[u8], block: &mut [u8])
+fn replay(stdout: Stdout, writes: &[u8], block: &mut [u8])
     requires { length block.old ≡ block_bytes }
 {
     unit::post_boot(block);
     let mut command = [0u8; parts::STORE_BYTES];
-    send(writes, block, &mut command);
-    text::line(&block[0..13]);
+    send(stdout, writes, block, &mut command);
+    text::line(stdout, &block[0..13]);
 }
 
-fn send(writes: &[u8], block: &mut [u8], command: &mut [u8]) {
+fn send(stdout: Stdout, writes: &[u8], block: &mut [u8], command: &mut [u8]) {
     let mut i: usize = 0;
     while i < writes.len() {
         let told = unit::write_joypad(block, writes[i], command);
-        show(told, command);
+        show(stdout, told, command);
         i += 1;
     }
 }
 
-fn show(told: Written, command: &[u8]) {
+fn show(stdout: Stdout, told: Written, command: &[u8]) {
     let Written::Command(n) = told else {
         return;
     };
     let end = 16 * bits::wide(n);
     if end <= command.len() {
-        text::line(&command[0..end]);
+        text::line(stdout, &command[0..end]);
     }
 }

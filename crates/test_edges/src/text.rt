@@ -1,20 +1,20 @@
 // What the examples print: bytes in upper-case hexadecimal, as RULES 8.5 has them, a line each.
 ghost use Rattle.std.specs.Prelude.{◌<◌};
 
-use libc::STDOUT_FILENO;
+use std::io::Stdout;
 
-pub fn line(s: &[u8]) {
+pub fn line(stdout: Stdout, s: &[u8]) {
     let mut i: usize = 0;
     while i < s.len() {
-        byte(s[i]);
+        byte(stdout, s[i]);
         i += 1;
     }
-    io::write_all(STDOUT_FILENO, b"\n");
+    say(stdout, b"\n");
 }
 
-fn byte(x: u8) {
+fn byte(stdout: Stdout, x: u8) {
     let pair = [digit(x / 16), digit(x % 16)];
-    io::write_all(STDOUT_FILENO, &pair);
+    say(stdout, &pair);
 }
 
 fn digit(n: u8) -> u8
@@ -23,6 +23,12 @@ fn digit(n: u8) -> u8
     if n < 10 { b'0' + n } else { b'A' + (n - 10) }
 }
 
-pub fn say(what: &[u8]) {
-    io::write_all(STDOUT_FILENO, what);
+// A write that fails is passed over: what is missing is seen beside the file `stdout`.
+pub fn say(stdout: Stdout, what: &[u8]) {
+    let _ = stdout.write_all(what);
+}
+
+// In decimal.
+pub fn number(stdout: Stdout, n: u64) {
+    let _ = stdout.print(n);
 }

@@ -6,10 +6,10 @@ ghost use Rattle.parts.specs.Parts.{block_bytes};
 use crate::emulator::part;
 use crate::maps::row;
 use crate::replays::played;
-use crate::text::say;
+use crate::text::{number, say};
 use bits::{high_byte, low_byte, put, wide};
-use libc::STDOUT_FILENO;
 use pulses::Conformance;
+use std::io::Stdout;
 
 const ATTR_BLK: u8 = 0x04;
 
@@ -17,63 +17,63 @@ const ATTR_LIN: u8 = 0x05;
 
 const ATTR_CHR: u8 = 0x07;
 
-pub fn examples(block: &mut [u8])
+pub fn examples(stdout: Stdout, block: &mut [u8])
     requires { length block.old ≡ block_bytes }
 {
-    sets();
-    lines();
-    cells();
+    sets(stdout);
+    lines(stdout);
+    cells(stdout);
     // one packet holds fourteen lines: fifteen announced do no more; two packets hold the fifteenth
-    columns(1, 14, block);
-    columns(1, 15, block);
-    columns(2, 15, block);
+    columns(stdout, 1, 14, block);
+    columns(stdout, 1, 15, block);
+    columns(stdout, 2, 15, block);
 }
 
 // Two bytes, and six a set: thirteen fill five packets, and eighteen take seven. None announced is too few.
-fn sets() {
-    judge(ATTR_BLK, 1, 0);
-    judge(ATTR_BLK, 1, 2);
-    judge(ATTR_BLK, 1, 3);
-    judge(ATTR_BLK, 1, 18);
-    judge(ATTR_BLK, 5, 13);
-    judge(ATTR_BLK, 5, 14);
-    judge(ATTR_BLK, 7, 18);
-    judge(ATTR_BLK, 7, 19);
+fn sets(stdout: Stdout) {
+    judge(stdout, ATTR_BLK, 1, 0);
+    judge(stdout, ATTR_BLK, 1, 2);
+    judge(stdout, ATTR_BLK, 1, 3);
+    judge(stdout, ATTR_BLK, 1, 18);
+    judge(stdout, ATTR_BLK, 5, 13);
+    judge(stdout, ATTR_BLK, 5, 14);
+    judge(stdout, ATTR_BLK, 7, 18);
+    judge(stdout, ATTR_BLK, 7, 19);
 }
 
 // Two bytes, and one a line.
-fn lines() {
-    judge(ATTR_LIN, 1, 14);
-    judge(ATTR_LIN, 1, 15);
-    judge(ATTR_LIN, 7, 110);
-    judge(ATTR_LIN, 7, 111);
+fn lines(stdout: Stdout) {
+    judge(stdout, ATTR_LIN, 1, 14);
+    judge(stdout, ATTR_LIN, 1, 15);
+    judge(stdout, ATTR_LIN, 7, 110);
+    judge(stdout, ATTR_LIN, 7, 111);
 }
 
 // Six bytes, and one for every four cells, also for those left over. Seven packets are too many, whatever they hold.
-fn cells() {
-    judge(ATTR_CHR, 1, 40);
-    judge(ATTR_CHR, 1, 41);
-    judge(ATTR_CHR, 6, 360);
-    judge(ATTR_CHR, 6, 361);
-    judge(ATTR_CHR, 7, 360);
+fn cells(stdout: Stdout) {
+    judge(stdout, ATTR_CHR, 1, 40);
+    judge(stdout, ATTR_CHR, 1, 41);
+    judge(stdout, ATTR_CHR, 6, 360);
+    judge(stdout, ATTR_CHR, 6, 361);
+    judge(stdout, ATTR_CHR, 7, 360);
 }
 
 // The verdict on a command of this code that announces so many items in so many packets.
-fn judge(code: u8, packets: u8, count: u16) {
-    say(b"packets ");
-    io::print_decimal(STDOUT_FILENO, packets as u64);
-    name(code);
-    io::print_decimal(STDOUT_FILENO, count as u64);
-    say(b": ");
+fn judge(stdout: Stdout, code: u8, packets: u8, count: u16) {
+    say(stdout, b"packets ");
+    number(stdout, packets as u64);
+    name(stdout, code);
+    number(stdout, count as u64);
+    say(stdout, b": ");
     let d = announcing(code, packets, count);
-    tell(pulses::verdict(part(&d, 0, 16 * wide(packets))));
+    tell(stdout, pulses::verdict(part(&d, 0, 16 * wide(packets))));
 }
 
-fn name(code: u8) {
+fn name(stdout: Stdout, code: u8) {
     match code {
-        ATTR_BLK => say(b", sets "),
-        ATTR_LIN => say(b", lines "),
-        _ => say(b", cells "),
+        ATTR_BLK => say(stdout, b", sets "),
+        ATTR_LIN => say(stdout, b", lines "),
+        _ => say(stdout, b", cells "),
     }
 }
 
@@ -91,7 +91,7 @@ fn announcing(code: u8, packets: u8, count: u16) -> [u8; parts::STORE_BYTES] {
 }
 
 // A line's byte is its column and 32 times its palette: columns 0 to 13 take palette 1, and fill the first packet; column 14 takes palette 2.
-fn columns(packets: u8, count: u16, block: &mut [u8])
+fn columns(stdout: Stdout, packets: u8, count: u16, block: &mut [u8])
     requires { length block.old ≡ block_bytes }
 {
     let mut d = announcing(ATTR_LIN, packets, count);
@@ -100,21 +100,21 @@ fn columns(packets: u8, count: u16, block: &mut [u8])
         2,
         &[32, 33, 34, 35, 36, 37, 38, 39, 40, 41, 42, 43, 44, 45, 78],
     );
-    carried(part(&d, 0, 16 * wide(packets)), block);
+    carried(stdout, part(&d, 0, 16 * wide(packets)), block);
 }
 
-fn carried(d: &[u8], block: &mut [u8])
+fn carried(stdout: Stdout, d: &[u8], block: &mut [u8])
     requires { length block.old ≡ block_bytes }
 {
-    tell(pulses::verdict(d));
-    played(d, block);
-    row(&block[parts::MAP..parts::MAP + 5]);
+    tell(stdout, pulses::verdict(d));
+    played(stdout, d, block);
+    row(stdout, &block[parts::MAP..parts::MAP + 5]);
 }
 
-fn tell(told: Conformance) {
+fn tell(stdout: Stdout, told: Conformance) {
     match told {
-        Conformance::Malformed => say(b"malformed\n"),
-        Conformance::Conforms => say(b"conforms\n"),
-        Conformance::Differs => say(b"differs\n"),
+        Conformance::Malformed => say(stdout, b"malformed\n"),
+        Conformance::Conforms => say(stdout, b"conforms\n"),
+        Conformance::Differs => say(stdout, b"differs\n"),
     }
 }

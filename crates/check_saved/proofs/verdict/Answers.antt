@@ -15,5 +15,5 @@ returns c =
     let args = c.args in
     let h = c.verdict_line-n.ensures in
     let text = verdict_line c.refusal.result.0 in
-    let lent = text-lent text args.out.now _ c.verdict_line-n.result (sym h.0) (h.1.1 ∙ ap (λ (m : ℕ). over 0 m text args.out.now) (sym h.0)) in
+    let lent = text-lent text args.out.now _ c.verdict_line-n.result (sym h.value) (h.out_after ∙ ap (λ (m : ℕ). over 0 m text args.out.now) (sym h.value)) in
     subst (λ (l : List ℕ). Sent c.write_out.result args.tally.now l c.write_out.new.tally) (lent ∙ ap verdict_line c.refusal.ensures) c.write_out.ensures

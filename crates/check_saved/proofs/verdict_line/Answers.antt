@@ -14,10 +14,11 @@ returns-then-refusal-eq0 c = as-value-upper_bound-out_after (rw (line-valid c.ar
 pub returns-then-is_placed : goal.returns-then-is_placed
 returns-then-is_placed c =
     let is = line-placed c.args.refusal.0 c.number-number.result c.if-refusal-eq0.false c.number-number.ensures c.offset.result c.offset.ensures (sym c.is_placed.ensures ∙ c.if-is_placed.true) in
-    as-value-upper_bound-out_after (rw is c.placed_line.ensures)
+    let line = c.placed_line.ensures in
+    as-value-upper_bound-out_after (rw is (line.value, (line.upper_bound, line.out_after)))
 
 pub returns : goal.returns
 returns c =
     let is = line-number c.args.refusal.0 c.number-number.result c.if-refusal-eq0.false c.number-number.ensures (sym c.is_placed.ensures ∙ c.if-is_placed.false) in
     let line = c.number_line.ensures in
-    as-value-upper_bound-out_after (rw is (line.0, (omega arith, line.1.1)))
+    as-value-upper_bound-out_after (rw is (line.value, (omega (arith, line.upper_bound), line.out_after)))

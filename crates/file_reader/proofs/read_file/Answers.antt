@@ -1,8 +1,5 @@
 -- What came is within the buffer at each turn; where the loop's test fails it is full.
-use mathlib.Core.Path.{◌≡◌}
-use Prim.Native.Nat.{◌-◌, ◌≤◌, ◌<◌}
 use native.Mathlib.Omega.{arith}
-use lib.ListN.{length}
 use Rattle.file_reader.proofs.Coming.{came-ended, came-full, came-failed}
 use Rattle.file_reader.proofs.read_file.Goals as goal
 

@@ -1,8 +1,6 @@
 use mathlib.Core.Path.{◌≡◌}
 use Prim.Native.Nat.{◌-◌, ◌≤◌, ◌<◌}
-use native.Mathlib.Omega.{arith}
 use lib.ListN.{length}
-use Rattle.file_reader.proofs.Coming.{came-ended, came-full, came-failed}
 use Rattle.file_reader.proofs.read_file.Given as goal
 
 abbrev pub invariant-loop-got : goal.invariant-loop-got

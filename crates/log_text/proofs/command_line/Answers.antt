@@ -2,7 +2,6 @@
 use mathlib.Core.Path.{sym}
 use native.Mathlib.Omega.{arith}
 use Rattle.log_text.proofs.Printed.{length-hex_line, command_put}
-use borrow.Author.Rules.{rules}
 use Rattle.log_text.proofs.command_line.Goals as goal
 
 pub returns : goal.returns

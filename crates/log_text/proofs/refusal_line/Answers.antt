@@ -5,7 +5,6 @@ use native.Mathlib.Omega.{arith}
 use Rattle.bits.specs.Over.{over}
 use Rattle.log_text.specs.Text.{decimal_text, refusal_text}
 use Rattle.log_text.proofs.Printed.{tail, length-refusal, refusal_put}
-use borrow.Author.Rules.{rules}
 use Rattle.log_text.proofs.refusal_line.Goals as goal
 
 pub returns : goal.returns

@@ -1,12 +1,8 @@
 -- `log_text::row_line` meets its contract: after i turns the first i words are spelled out, and LF is put behind the last.
-use Prim.Native.Nat.{◌-◌, ◌*◌, ◌≤◌}
-use mathlib.Core.Path.{◌≡◌, refl}
+use mathlib.Core.Path.{refl}
 use native.Mathlib.Omega.{arith}
-use lib.ListN.{length, take}
-use Rattle.bits.specs.Over.{over}
 use Rattle.log_text.specs.Text.{words_text}
 use Rattle.log_text.proofs.Printed.{row_turn, row_end}
-use borrow.Author.Rules.{rules}
 use Rattle.log_text.proofs.row_line.Goals as goal
 
 pub loop-i-init : goal.loop-i-init

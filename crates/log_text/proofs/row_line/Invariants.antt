@@ -1,11 +1,8 @@
 use Prim.Native.Nat.{◌-◌, ◌*◌, ◌≤◌}
-use mathlib.Core.Path.{◌≡◌, refl}
-use native.Mathlib.Omega.{arith}
+use mathlib.Core.Path.{◌≡◌}
 use lib.ListN.{length, take}
 use Rattle.bits.specs.Over.{over}
 use Rattle.log_text.specs.Text.{words_text}
-use Rattle.log_text.proofs.Printed.{row_turn, row_end}
-use borrow.Author.Rules.{rules}
 use Rattle.log_text.proofs.row_line.Given as goal
 
 abbrev pub invariant-loop-i : goal.invariant-loop-i

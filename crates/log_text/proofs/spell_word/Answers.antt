@@ -1,7 +1,6 @@
 -- `log_text::spell_word` meets its contract: the high byte's digits, then the low one's.
 use native.Mathlib.Omega.{arith}
 use Rattle.log_text.proofs.Printed.{word_put}
-use borrow.Author.Rules.{rules}
 use Rattle.log_text.proofs.spell_word.Goals as goal
 
 pub returns : goal.returns

@@ -1,5 +1,5 @@
 -- Each turn hands over some of what is left.
-use Rattle.std.proofs.Common.{◌≡◌, ℕ, ◌-◌, ◌<◌, ◌≤◌, length, take, refl, arith, rules}
+use Rattle.std.proofs.Common.{refl, arith}
 use Rattle.log_writer.specs.Tally.{tallied}
 use Rattle.log_writer.proofs.Tallies.{rest-most, tallied-more, sent_all, sent-some}
 use Rattle.log_writer.proofs.hand_over.Goals as goal

@@ -1,6 +1,5 @@
-use Rattle.std.proofs.Common.{◌≡◌, ℕ, ◌-◌, ◌<◌, ◌≤◌, length, take, refl, arith, rules}
+use Rattle.std.proofs.Common.{◌≡◌, ◌-◌, ◌<◌, ◌≤◌, length, take}
 use Rattle.log_writer.specs.Tally.{tallied}
-use Rattle.log_writer.proofs.Tallies.{rest-most, tallied-more, sent_all, sent-some}
 use Rattle.log_writer.proofs.hand_over.Given as goal
 
 abbrev pub invariant-loop-done : goal.invariant-loop-done

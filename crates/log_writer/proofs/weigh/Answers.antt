@@ -1,5 +1,5 @@
 -- What is left of the text from here on is tallied to the same number.
-use Rattle.std.proofs.Common.{◌≡◌, ℕ, ◌+◌, ◌-◌, ◌%◌, ◌^◌, ◌<◌, ◌≤◌, length, drop, refl, ap, ◌∙◌, arith, rules}
+use Rattle.std.proofs.Common.{ℕ, ◌+◌, ◌%◌, ◌^◌, drop, refl, ap, ◌∙◌, arith}
 use Rattle.log_writer.specs.Tally.{tallied}
 use Rattle.log_writer.proofs.Tallies.{tallied_turn, tallied_end}
 use Rattle.log_writer.proofs.weigh.Goals as goal

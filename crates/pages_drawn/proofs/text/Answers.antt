@@ -17,7 +17,7 @@ returns-in-Refused c =
     let line = c.number_line.ensures in
     let told = sym (ap number_told c.in-Refused.is) ∙ asked.ensures.result_value in
     as-value-upper_bound-out_after (rw (text-refused start.args.came.now start.args.screen.now start.requires.0 _ number.result told number.ensures)
-    (line.0, (omega arith, line.1.1)))
+    (line.value, (omega (arith, line.upper_bound), line.out_after)))
 
 pub returns-in-Is : goal.returns-in-Is
 unfolding number_told
