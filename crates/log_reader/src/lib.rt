@@ -1,5 +1,5 @@
 // Reading a log from standard input, chunk by chunk, and writing what it tells. Both programs stand on it: `replay` writes the text of
-// each fill, `plate` is quiet up to its end. What is told stands in the contracts of `log`, what is written in the lent tally of
+// each fill, `plate` is quiet up to its end. What is told stands in the contracts of `log_chunks`, what is written in the lent tally of
 // `log_writer`; here are the calls of `read`.
 #![tactic(auto)]
 

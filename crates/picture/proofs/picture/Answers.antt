@@ -1,4 +1,4 @@
--- Each turn adds a row after those that are there (`rows-turn`).
+-- Each turn adds a row after those that are there (`rows_turn`).
 use Prim.Native.Nat.{◌-◌, ◌*◌, ◌/◌, ◌%◌, ◌≤◌}
 use mathlib.Core.Path.{◌≡◌, refl}
 use native.Mathlib.Omega.{arith}

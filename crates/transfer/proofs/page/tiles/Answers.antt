@@ -1,4 +1,4 @@
--- Each turn adds a tile after those that are there (`tiles-turn`).
+-- Each turn adds a tile after those that are there (`tiles_turn`).
 use Prim.Native.Nat.{◌≤◌, ◌-◌, ◌*◌}
 use mathlib.Core.Path.{◌≡◌, refl}
 use native.Mathlib.Omega.{arith}
