@@ -13,7 +13,7 @@ pub extern "C" fn sporedrift_parse_line(text: &[u8], bytes: &mut [u8]) -> u32
 
 #[unsafe(no_mangle)]
 pub extern "C" fn sporedrift_version() -> u32
-    ensures { result ≡ value 1280 }
+    ensures { result ≡ value 1024 }
 {
     export::reading::sporedrift_version()
 }
