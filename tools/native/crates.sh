@@ -1,15 +1,15 @@
-# To be sourced, in the repository's root: what crates.txt says of a crate, whether a file is up to date, and where the kit stands.
-# up_to_date sets made.
+# To be sourced, in the repository's root: what crates.txt says of a crate, whether a file is up to date, whether the libraries below a crate
+# stand proved, and where the kit stands. up_to_date sets made, proved_below sets crate, stamps and all.
 
 # Whether crates.txt lists a crate, and what it says that the crate uses.
-listed() { sed 's/#.*//' crates.txt | grep -q "^[[:blank:]]*$1[[:blank:]]*:"; }
-uses() { sed 's/#.*//' crates.txt | sed -n "s/^[[:blank:]]*$1[[:blank:]]*://p"; }
+listed() { sed 's/#.*//' crates.txt | grep -Eq "^[[:blank:]]*$1([[:blank:]]+staticlib)?[[:blank:]]*:"; }
+uses() { sed 's/#.*//' crates.txt | sed -nE "s/^[[:blank:]]*$1([[:blank:]]+staticlib)?[[:blank:]]*://p"; }
 
 # Every crate of the repository that NAME reaches, itself left out. In one process: every command of bin/ asks this.
 reached() { # NAME
     awk -v name="$1" '
         { sub(/#.*/, "") }
-        /:/ { split($0, part, ":"); gsub(/[ \t]/, "", part[1]); uses[part[1]] = part[2] }
+        /:/ { split($0, part, ":"); split(part[1], word, " "); uses[word[1]] = part[2] }
         END {
             n = split(uses[name], todo, " ")
             for (i = 1; i <= n; i++) {
@@ -23,14 +23,35 @@ reached() { # NAME
         }' crates.txt
 }
 
+# What the proofs of these crates read, as folders: all of a crate but its edits, what its program is run on, and what rt made.
+read_by() { # NAME..
+    for crate in "$@"; do
+        for part in src specs proofs; do
+            if [ -d "crates/$crate/$part" ]; then echo "crates/$crate/$part"; fi
+        done
+    done
+}
+
 # Whether FILE is there and nothing of these files and folders is newer.
 up_to_date() { # FILE FROM..
     made=$1
     shift
-    [ -f "$made" ] && [ -z "$(find "$@" -newer "$made" ! -path '*/must-fail*' | head -n 1)" ]
+    [ -e "$made" ] && [ -z "$(find "$@" -newer "$made" | head -n 1)" ]
 }
 
-# The kit's folder. What it has for the machine at hand is below on/.
+# Whether the libraries that NAME reaches stand as one run of rt ci left them, each made after all that these crates are made from. rt's other
+# commands leave a stamp beside a library, by which they know themselves whether it is up to date; of rt ci's they would prove each once more.
+proved_below() { # NAME
+    all=$(reached "$1")
+    # shellcheck disable=SC2046,SC2086
+    set -- crates.txt $(read_by $all)
+    for crate in $all; do
+        # the folder's own time: rt ci makes it anew, also where what it puts there was made by an earlier run
+        if [ -e "crates/$crate/out/rlib/stamp" ] || ! up_to_date "crates/$crate/out/rlib/$crate.rlib" "$@"; then return 1; fi
+    done
+}
+
+# The kit's folder.
 kit_folder() {
     if [ -n "${RATTLE_HOME:-}" ]; then
         echo "$RATTLE_HOME"

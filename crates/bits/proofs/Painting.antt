@@ -1,5 +1,5 @@
--- Laws of runs of writes: a loop's turn (`painted-turn`), adjoining runs (`painted-run`), and the end, where the run from the front
--- is a `tab` and the kept tail (`painted-tab`) or the whole list (`painted-all`, `painted-rest`).
+-- Laws of runs of writes: a loop's turn (`painted_turn`), adjoining runs (`painted-run`), and the end, where the run from the front
+-- is a `tab` and the kept tail (`painted-tab`) or the whole list (`painted_all`, `painted-rest`).
 use mathlib.Core.Path.{◌≡◌, refl, sym, ap, ap₂, ◌∙◌, subst}
 use mathlib.Core.Bool.{Bool, true, false}
 use mathlib.Core.List.{List, ◌++◌, append-nil}

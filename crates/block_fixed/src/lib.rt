@@ -1,5 +1,5 @@
 // What a fixed command does to the block: it looks at the parts that screens change, or marks what is pending there. The rules are
-// `fixedly` and `fixedSnes` of the crate `rules`; what each command computes is in the crates `palettes` and `commands`. The plain
+// `fixedly` and `fixed_snes` of the crate `rules`; what each command computes is in the crates `palettes` and `commands`. The plain
 // commands are in the crate `block_plain`. Every worker of a command requires a valid block and leaves one.
 #![tactic(auto)]
 

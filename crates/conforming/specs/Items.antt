@@ -40,6 +40,6 @@ items_done code c n map = pack (steps (item code c) n (unpack map))
 unfoldable pub after_items : ℕ → List ℕ → ℕ → Sgb → Sgb
 after_items code c n u = record { port = u.port; game = with_map (items_done code c n u.game.map) u.game; snes = u.snes }
 
--- the unit after a command was sent to it, and n of its items were carried out, as `sentTo` of the crate `unit` is the one after any command
+-- the unit after a command was sent to it, and n of its items were carried out, as `sent_to` of the crate `unit` is the one after any command
 unfoldable pub sent_items : Sgb → List ℕ → ℕ → Sgb
 sent_items u c n = after_items (code_of (get_or c 0 0)) c n (arrived u c)

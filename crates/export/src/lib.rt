@@ -3,9 +3,9 @@
 // None asks anything of its caller, and each contract is that of the call which it passes on.
 #![tactic(auto)]
 
-mod changing;
-mod exchanging;
-mod lending;
-mod looking;
-mod reading;
-mod sending;
+pub mod changing;
+pub mod exchanging;
+pub mod lending;
+pub mod looking;
+pub mod reading;
+pub mod sending;

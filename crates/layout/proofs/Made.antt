@@ -1,5 +1,5 @@
 -- `Made b ps`: the bytes b are the parts ps, each of its size. A function that changes the block step by step is a chain of these laws:
--- where it begins (`made_of`), a part that comes back (`made-put`), a byte of the header (`made-set`), and what is read (`made-get`, `made-byte`).
+-- where it begins (`made_of`), a part that comes back (`made_put`), a byte of the header (`made-set`), and what is read (`made_get`, `made-byte`).
 use mathlib.Core.Path.{◌≡◌, sym, ap, ◌∙◌}
 use mathlib.Core.Bool.{true}
 use mathlib.Core.List.{List, [], ◌∷◌, map}

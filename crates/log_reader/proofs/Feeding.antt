@@ -1,4 +1,4 @@
--- A turn of feeding is a fill, told: it keeps what the steps of `log` require, leaves less to do, and goes on, or ends as `Stands` has it.
+-- A turn of feeding is a fill, told: it keeps what the steps of `log_chunks` require, leaves less to do, and goes on, or ends as `Stands` has it.
 use mathlib.Core.Path.{◌≡◌, refl, sym, ap, ap₂, ◌∙◌, subst, subst⁻¹}
 use mathlib.Core.Bool.{Bool, true, false, cond, false≢true}
 use mathlib.Core.List.{List, [], ◌++◌}

@@ -1,4 +1,4 @@
--- What reading keeps: the buffers are those that the steps of `log` require, and lines are counted within the bytes that came.
+-- What reading keeps: the buffers are those that the steps of `log_chunks` require, and lines are counted within the bytes that came.
 use Rattle.std.specs.Prelude.{ℕ, ◌+◌, ◌≤◌, ◌≡◌, length}
 use Rattle.parts.specs.Parts.{block_bytes, store_bytes, capture_bytes}
 use Rattle.log_line.specs.Line.{line_digits}

@@ -1,4 +1,4 @@
--- Serves the loops that read a log; nobody need believe it: `Steps` of `log` says by which laws. Where a reading begins, what is left to do,
+-- Serves the loops that read a log; nobody need believe it: `Steps` of `log_chunks` says by which laws. Where a reading begins, what is left to do,
 -- and the LF that a last line may lack.
 use Rattle.std.specs.Prelude.{ℕ, ◌+◌, ◌-◌, ◌*◌, cond, List, [], ◌∷◌, ltb}
 use Rattle.parts.specs.Parts.{capture_bytes}

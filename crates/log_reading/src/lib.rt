@@ -1,5 +1,5 @@
 // Where a reading of a log stands: how it begins, whether there is more to do, and what a last line lacks. Its steps are in the crate
-// `log`.
+// `log_chunks`.
 #![tactic(auto)]
 
 ghost use Rattle.std.specs.Prelude.{◌≡◌, ltb, length};

@@ -1,5 +1,5 @@
--- Serves the loops of `draw`; nobody need believe it. How they make the screen, in two passes over it. That it is `screenOf`, of `Pixels` next
--- door, is proofs/Passes, `screen-is`.
+-- Serves the loops of `draw`; nobody need believe it. How they make the screen, in two passes over it. That it is `screen_of`, of `Pixels` next
+-- door, is proofs/Passes, `screen_is`.
 use Rattle.std.specs.Prelude.{ℕ, ◌+◌, ◌*◌, ◌/◌, ◌%◌, cond, List, ltb, get_or}
 use Rattle.parts.specs.Parts.{capture_bytes}
 use Rattle.bits.specs.Plane.{four_of}

@@ -27,7 +27,7 @@ transfer_of (fixed (attr_set d)) = none
 transfer_of (fixed freeze) = none
 transfer_of (fixed (transfer t)) = some t
 
--- .. and the one that a write's answer asks for, by the command that its caller then holds (`commandHeld` of the crate `unit`)
+-- .. and the one that a write's answer asks for, by the command that its caller then holds (`command_held` of the crate `unit`)
 unfoldable pub asked_for : Answer (Option (List ℕ)) → Option Transfer
 asked_for (refused n) = none
 asked_for (given none) = none

@@ -1,6 +1,6 @@
 -- The packet store: 112 bytes, seven places of sixteen. A packet that is in takes its place there; a command is complete with its last.
 -- RULES 3.6 and 1.5.
--- `atStop` is that rule. Below it stands the same in parts, by what a pulse completed, as the code goes: it files the packet, the caller
+-- `at_stop` is that rule. Below it stands the same in parts, by what a pulse completed, as the code goes: it files the packet, the caller
 -- takes the command from the store's front, and the store is emptied last. That the parts come to the rule is proofs/Readings.
 use Rattle.std.specs.Prelude.{ℕ, zero, suc, ◌+◌, ◌-◌, ◌*◌, ◌/◌, ◌%◌, ◌<◌, Bool, cond, List, [], ◌∷◌, take, replicate}
 use Rattle.std.proofs.Math.Option.{Option, none, some}

@@ -1,5 +1,5 @@
 -- Serves the loops of `page`; nobody need believe it. How they make the page, in two passes. That it is `page_of`, of `Page` next door, is
--- proofs/Pages, `page-is`.
+-- proofs/Pages, `page_is`.
 use Rattle.std.specs.Prelude.{ℕ, ◌+◌, ◌*◌, ◌/◌, ◌%◌, List, get_or}
 use Rattle.bits.specs.Plane.{plane_of}
 use Rattle.bits.specs.Tab.{tab}

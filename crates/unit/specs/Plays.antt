@@ -1,6 +1,6 @@
 -- Writes in a row by one public call, up to and with the first that completes a command (RULES 3.10): what it answers, and what it leaves in
 -- all that is lent. They are played by the rules (`Play` of the crate `block_writes`); refusals are those of a single write. A call takes at most
--- `playMost` of them, so that how many were taken crosses to C in one number with the command's packets.
+-- `play_most` of them, so that how many were taken crosses to C in one number with the command's packets.
 -- Next door: what a caller holds who hands over many writes by such calls (`Pieces`).
 use Rattle.std.specs.Prelude.{ℕ, cond, List, ltb, take}
 use Rattle.std.proofs.Math.Option.{Option}

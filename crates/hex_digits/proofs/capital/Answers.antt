@@ -1,4 +1,4 @@
--- `hex::capital` meets its contract: the test is the definition's.
+-- `hex_digits::capital` meets its contract: the test is the definition's.
 use mathlib.Core.Path.{sym}
 use borrow.Author.Tests.{lt-ltb, le-ltb}
 use Rattle.hex_digits.specs.Hex.{capital}

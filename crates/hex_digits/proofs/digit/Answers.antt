@@ -1,4 +1,4 @@
--- `hex::digit` meets its contract: its masks and tests are tried at every byte.
+-- `hex_digits::digit` meets its contract: its masks and tests are tried at every byte.
 use mathlib.Core.Path.{sym, ◌∙◌}
 use borrow.Author.Tests.{lt-ltb, le-ltb, eq-eqb, ne_eqb}
 use native.Mathlib.Omega.{arith}

@@ -1,4 +1,4 @@
--- `hex::spell_byte` meets its contract: the shift and the mask are the quotient and the rest by 16, and both digits are put in place.
+-- `hex_digits::spell_byte` meets its contract: the shift and the mask are the quotient and the rest by 16, and both digits are put in place.
 use mathlib.Core.Path.{ap, ◌∙◌}
 use native.Mathlib.Omega.{arith}
 use lib.Bits.{and_mask, mask_lt}

@@ -1,4 +1,4 @@
--- `hex::two_digits` meets its contract: its word is tried at every two digits.
+-- `hex_digits::two_digits` meets its contract: its word is tried at every two digits.
 use Prim.Native.Nat.{◌/◌}
 use mathlib.Core.Path.{ap, ◌∙◌}
 use native.Mathlib.Omega.{arith}

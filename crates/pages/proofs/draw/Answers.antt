@@ -1,4 +1,4 @@
--- Both passes give the screen (`screen-is`).
+-- Both passes give the screen (`screen_is`).
 use native.Mathlib.Omega.{arith}
 use Rattle.pages.proofs.Passes.{screen_is}
 use Rattle.pages.proofs.draw.Goals as goal

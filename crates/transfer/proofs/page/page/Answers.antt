@@ -1,4 +1,4 @@
--- The second pass puts the first one's bytes into the order of the page (`page-is`).
+-- The second pass puts the first one's bytes into the order of the page (`page_is`).
 use native.Mathlib.Omega.{arith}
 use Rattle.transfer.proofs.Pages.{page_is}
 use Rattle.transfer.proofs.page.page.Goals as goal

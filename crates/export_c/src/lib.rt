@@ -1,0 +1,10 @@
+// The calls of the crate `export` for C and its linker. A crate is a library or an archive to link, and this one is the archive: each call here has
+// the name, the parameters and the contract of the one that it passes on, and does nothing besides.
+#![tactic(auto)]
+
+mod changing;
+mod exchanging;
+mod lending;
+mod looking;
+mod reading;
+mod sending;
