@@ -3,8 +3,8 @@ use Prim.Native.Nat.{◌+◌, ◌*◌}
 use mathlib.Core.Path.{◌≡◌, refl}
 use mathlib.Core.List.{[], ◌∷◌}
 use Rattle.parts.specs.Parts.{frozen_at}
-use Rattle.log_text.specs.Text.{places_from, decimal_text, number_line}
-use Rattle.check_saved.specs.Verdict.{placed, valid_line, placed_line, verdict_line}
+use Rattle.log_text.specs.Text.{places_from, decimal_text}
+use Rattle.check_saved.specs.Verdict.{placed, valid_line, number_line, placed_line, verdict_line}
 
 -- `valid`
 of-valid : verdict_line 0 ≡ 118 ∷ 97 ∷ 108 ∷ 105 ∷ 100 ∷ 10 ∷ []

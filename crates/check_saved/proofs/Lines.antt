@@ -1,5 +1,5 @@
 -- The line put together from its parts, and how long it is.
-use Prim.Native.Nat.{ℕ, ◌+◌}
+use Prim.Native.Nat.{ℕ, ◌+◌, ◌≤◌}
 use mathlib.Core.Bool.{true, false}
 use mathlib.Core.Path.{◌≡◌, refl, ap, sym, ◌∙◌}
 use mathlib.Core.List.{List, [], ◌∷◌, ◌++◌, append_assoc}
@@ -9,8 +9,8 @@ use borrow.Author.Tests.{eq-eqb, ne_eqb}
 use lib.ListN.{length, length-append}
 use Rattle.bits.specs.Over.{over}
 use Rattle.bits.proofs.Overs.{over-over}
-use Rattle.log_text.specs.Text.{lf, decimal_text, number_line}
-use Rattle.check_saved.specs.Verdict.{number_in, offset_in, placed, valid_line, placed_line, verdict_line}
+use Rattle.log_text.specs.Text.{lf, decimal_text}
+use Rattle.check_saved.specs.Verdict.{number_in, offset_in, placed, valid_line, number_line, placed_line, verdict_line}
 
 abbrev between : List ℕ
 between = 32 ∷ 97 ∷ 116 ∷ 32 ∷ []
@@ -24,6 +24,15 @@ behind a z b m o n k en ek em eo =
     ∙ (λ j. over (at j) (ek j) z (em j))
     ∙ over-over 0 (length a) (length z) a z b (omega arith) refl
     ∙ ap (λ (l : ℕ). over 0 l (a ++ z) b) (sym (length-append a z))
+
+pub length-number : (x : ℕ) → length (number_line x) ≡ length (decimal_text x) + 1
+unfolding number_line
+length-number x = length-append (decimal_text x) lf
+
+pub number_put : (x n : ℕ) (b m o : List ℕ) → n ≡ length (decimal_text x) → m ≡ over 0 (length (decimal_text x)) (decimal_text x) b → o ≡ over n 1 lf m
+    → o ≡ over 0 (length (number_line x)) (number_line x) b
+unfolding number_line
+number_put x n b m o en em eo = behind (decimal_text x) lf b m o n 1 en refl em eo
 
 pub length-placed : (x y : ℕ) → length (placed_line x y) ≡ length (decimal_text x) + 5 + length (decimal_text y)
 unfolding placed_line
