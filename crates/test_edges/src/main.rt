@@ -3,7 +3,6 @@
 #![tactic(auto)]
 
 mod blocks;
-mod carried;
 mod emulator;
 mod maps;
 mod replays;
@@ -21,5 +20,4 @@ fn main(rt: HostRuntime) {
     blocks::examples(stdout, &mut block);
     emulator::examples(stdout, &mut block);
     verdicts::examples(stdout, &mut block);
-    carried::examples(stdout, &mut block);
 }

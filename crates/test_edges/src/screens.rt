@@ -1,5 +1,5 @@
 // Screens: the third one after a transfer command lands (RULES 10.2).
-ghost use Rattle.std.specs.Prelude.{◌≡◌, ◌+◌, ◌≤◌, length};
+ghost use Rattle.std.specs.Prelude.{◌≡◌, length};
 ghost use Rattle.parts.specs.Parts.{block_bytes};
 
 use crate::replays::command;
@@ -20,17 +20,17 @@ pub fn examples(stdout: Stdout, block: &mut [u8])
     let mut screen = [0u8; parts::CAPTURE_BYTES];
     screen[0] = 0x1B;
     screen[1] = 0x1B;
-    show(stdout, &screen, block, parts::UPPER_TILES);
-    show(stdout, &screen, block, parts::UPPER_TILES);
-    show(stdout, &screen, block, parts::UPPER_TILES);
+    show(stdout, &screen, block);
+    show(stdout, &screen, block);
+    show(stdout, &screen, block);
 }
 
-// What lands, and what the part of the block that starts there then begins with.
-pub fn show(stdout: Stdout, screen: &[u8], block: &mut [u8], part: usize)
-    requires { (length block.old ≡ block_bytes) × (part + 2 ≤ block_bytes) }
+// What lands, and what the upper half of the tiles then starts with.
+fn show(stdout: Stdout, screen: &[u8], block: &mut [u8])
+    requires { length block.old ≡ block_bytes }
 {
     tell(stdout, unit::update_screen(block, screen));
-    text::line(stdout, &block[part..part + 2]);
+    text::line(stdout, &block[parts::UPPER_TILES..parts::UPPER_TILES + 2]);
 }
 
 fn tell(stdout: Stdout, told: Shown) {

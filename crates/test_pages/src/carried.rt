@@ -4,10 +4,10 @@ ghost use Rattle.std.specs.Prelude.{◌≡◌, ◌+◌, ◌<◌, ◌≤◌, leng
 ghost use Rattle.parts.specs.Parts.{block_bytes, capture_bytes};
 ghost use Rattle.transfer.specs.Page.{page_bytes};
 
-use crate::replays::played;
-use crate::screens::show;
+use crate::sent::{played, show};
+use crate::text;
 use crate::text::say;
-use crate::{blocks, text};
+use refusal::Refusal;
 use std::io::Stdout;
 use transfer::page::PAGE_BYTES;
 use view::Number;
@@ -79,12 +79,19 @@ fn refused(stdout: Stdout, bytes: usize, room: usize)
 
 fn tell(stdout: Stdout, told: Number) {
     match told {
-        Number::Refused(r) => blocks::tell(stdout, r),
+        Number::Refused(r) => name(stdout, r),
         Number::Is(n) => {
             text::number(stdout, n as u64);
             say(stdout, b" bytes\n");
         }
     }
+}
+
+fn name(stdout: Stdout, told: Refusal) {
+    text::number(stdout, told.number() as u64);
+    say(stdout, b" at ");
+    text::number(stdout, told.offset() as u64);
+    say(stdout, b"\n");
 }
 
 // A first colour of 1234 hex; the two screens before it are blank.

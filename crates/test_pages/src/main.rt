@@ -1,0 +1,12 @@
+// The worked examples of pages as screens, RULES 10.6, run by the public calls. What is written is compared with the file `stdout`.
+#![tactic(auto)]
+
+mod carried;
+mod sent;
+mod text;
+
+fn main(rt: HostRuntime) {
+    let stdout = rt.stdout();
+    let mut block = [0u8; parts::BLOCK];
+    carried::examples(stdout, &mut block);
+}
