@@ -1,4 +1,4 @@
-// The worked examples of pages as screens, RULES 10.6, run by the public calls. What is written is compared with the file `stdout`.
+// The worked examples of pages as screens, RULES 5.6 and 5.7, run by the public calls. What is written is compared with the file `stdout`.
 #![tactic(auto)]
 
 mod carried;
