@@ -13,4 +13,4 @@ pub returns : goal.returns
 returns c =
     let start = c in
     let h = c.hand_over.ensures in
-    as-store_after-command_after (run-handed start.args.mask start.args.lines.index start.args.start start.args.lines start.args.store.now start.args.writes.now c.run_fast-r.result _ _ start.args.command.now _ c.run_fast-r.ensures h.0 h.1)
+    as-store_after-command_after (run-handed start.args.mask start.args.lines.index start.args.start start.args.lines start.args.store.now start.args.writes.now c.run_fast-r.result _ _ start.args.command.now _ c.run_fast-r.ensures h.store_after h.command_after)

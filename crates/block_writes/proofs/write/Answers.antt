@@ -11,4 +11,4 @@ returns c =
     let start = c.args in
     let p = c.play-p.ensures in
     let e = played-write (load start.block.now) start.value in
-    record { value = p.1.0 ∙ ap (λ (q : Played). packets_told q.told) e; block_after = p.1.1.0 ∙ ap (λ (q : Played). save q.unit) e; command_after = p.1.1.1 ∙ ap (λ (q : Played). handed q.told start.command.now) e }
+    record { value = p.packets_value ∙ ap (λ (q : Played). packets_told q.told) e; block_after = p.block_after ∙ ap (λ (q : Played). save q.unit) e; command_after = p.command_after ∙ ap (λ (q : Played). handed q.told start.command.now) e }

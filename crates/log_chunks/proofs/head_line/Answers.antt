@@ -12,5 +12,5 @@ returns c =
     let start = c in
     let l = c.command_line.ensures in
     let e : c.command_line.result ≡ length (head_line start.args.block.now) = (unfold head_line in
-    as-value-out_after (l.0) in
-    ((e, omega (arith, e, head-short start.args.block.now)), (unfold head_line in l.1)))
+    as-value-out_after (l.value) in
+    ((e, omega (arith, e, head-short start.args.block.now)), (unfold head_line in l.out_after)))

@@ -27,4 +27,4 @@ returns c =
     let start = c in
     let s = c.take_step-s.ensures in
     let t = c.tell-n.ensures in
-    said start.args.so_far (desk c.args.block.now c.args.line.now c.args.bytes.now c.args.command.now) start.args.chunk.now start.args.out.now c.take_step-s.result _ _ _ _ _ _ _ s.0 s.1.0 s.1.1.0 s.1.1.1.0 s.1.1.1.1 t.0 (omega (arith, t.1.0, start.requires.step_room_in_bounds.0)) t.1.1 c.is_refused.ensures
+    said start.args.so_far (desk c.args.block.now c.args.line.now c.args.bytes.now c.args.command.now) start.args.chunk.now start.args.out.now c.take_step-s.result _ _ _ _ _ _ _ s.value s.block_after s.line_after s.bytes_after s.command_after t.value (omega (arith, t.upper_bound, start.requires.step_room_in_bounds.0)) t.out_after c.is_refused.ensures

@@ -15,4 +15,4 @@ returns c =
     let args = c.args in
     let text = refusal_text args.number in
     let h = c.refusal_line-n.ensures in
-    subst (λ (l : List ℕ). Sent c.write_out.result args.tally.now l c.write_out.new.tally) (text-lent text args.out.now _ c.refusal_line-n.result (sym h.0) (h.1.1 ∙ ap (λ (m : ℕ). over 0 m text args.out.now) (sym h.0))) c.write_out.ensures
+    subst (λ (l : List ℕ). Sent c.write_out.result args.tally.now l c.write_out.new.tally) (text-lent text args.out.now _ c.refusal_line-n.result (sym h.value) (h.out_after ∙ ap (λ (m : ℕ). over 0 m text args.out.now) (sym h.value))) c.write_out.ensures

@@ -46,5 +46,5 @@ returns c =
       numbered = omega (arith, k.0.numbered, ap (λ (l : List ℕ). length l) one, last-short r);
       counts = omega arith;
       short = omega arith;
-      outcome = outcome-ends args.quiet p _ start.requires.fit k.0.fit c.feed-f.result.state _ one k.1;
+      outcome = outcome-ends args.quiet p _ start.requires.fit k.0.fit c.feed-f.result.state _ one k.stands;
     }

@@ -82,6 +82,6 @@ returns c =
         numbered = omega (arith, k.0.numbered, c.count-n.ensures.ran.1, c.count-n.ensures.ran.0, c.read-got.auto.1.0, start.requires.out_len.1);
         counts = omega (arith, c.count-n.ensures.ran.1);
         short = omega (arith, c.count-n.ensures.ran.1, c.count-n.ensures.ran.0, c.read-got.auto.1.0, start.requires.out_len.1);
-        outcome = k.1;
+        outcome = k.stands;
       },
     )

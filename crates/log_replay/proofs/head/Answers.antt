@@ -15,5 +15,5 @@ returns c =
     let args = c.args in
     let block = args.block.now in
     let h = c.head_line-n.ensures in
-    let n = h.0.0 in
-    subst (λ (l : List ℕ). Sent c.write_out.result args.tally.now l c.write_out.new.tally) (text-lent (head_line block) args.out.now _ c.head_line-n.result (sym n) (h.1 ∙ ap (λ (m : ℕ). over 0 m (head_line block) args.out.now) (sym n))) c.write_out.ensures
+    let n = h.value.0 in
+    subst (λ (l : List ℕ). Sent c.write_out.result args.tally.now l c.write_out.new.tally) (text-lent (head_line block) args.out.now _ c.head_line-n.result (sym n) (h.out_after ∙ ap (λ (m : ℕ). over 0 m (head_line block) args.out.now) (sym n))) c.write_out.ensures

@@ -60,4 +60,4 @@ returns c = let f = c.lay_front.ensures in
     let t = c.lay_tables.ensures in
     let k = c.lay_captures.ensures in
     let b = c.lay_border.ensures in
-    λ i. lent (f.0 i) (t.0 i) (t.1.0 i) (t.1.1.0 i) (t.1.1.1 i) (f.1.0 i) (f.1.1.0 i) (k.0 i) (k.1 i) (f.1.1.1 i) (b.0 i) (b.1.0 i) (b.1.1 i)
+    λ i. lent (f.fields_after i) (t.palettes_after i) (t.attribute_map_after i) (t.system_palettes_after i) (t.attribute_files_after i) (f.packet_after i) (f.packets_after i) (k.capture_after i) (k.frozen_capture_after i) (f.preset_after i) (b.border_tiles_after i) (b.border_map_after i) (b.border_palettes_after i)

@@ -38,4 +38,4 @@ returns c =
     (accepts start.block.now r.result.0 r.ensures c.if-no-ne0.false)
     c.if-room-lt-STORE_BYTES.false
     (most-taken start.writes.now _ play_most c.at_most-most.ensures)
-    c.told.ensures p.0 p.1.0 p.1.1.0 p.1.1.1)
+    c.told.ensures p.at_value p.packets_value p.block_after p.command_after)
