@@ -29,7 +29,7 @@ extern "C" {
 /* ---- the version of this header; sporedrift_version tells that of the library which is linked */
 
 #define SPOREDRIFT_VERSION_MAJOR 0
-#define SPOREDRIFT_VERSION_MINOR 5
+#define SPOREDRIFT_VERSION_MINOR 4
 #define SPOREDRIFT_VERSION_PATCH 0
 #define SPOREDRIFT_VERSION "0.4.0"
 #define SPOREDRIFT_VERSION_NUMBER (SPOREDRIFT_VERSION_MAJOR * 65536 + SPOREDRIFT_VERSION_MINOR * 256 + SPOREDRIFT_VERSION_PATCH)

@@ -12,7 +12,7 @@ from typing import Any, Iterator, List, Optional, Union
 from ._fields import field_text
 
 # The library that this module is written for: its first two numbers have to be these.
-MAJOR, MINOR = 0, 5
+MAJOR, MINOR = 0, 4
 
 NAMES = (f"libsporedrift.so.{MAJOR}.{MINOR}", "libsporedrift.so")
 WHAT_TO_DO = (
