@@ -1,5 +1,5 @@
 //! The stored list, `crates/test_stored/stdout`: 608 rounds of writes, screens and looks, made from seeds, with a digest of each kind
-//! of answer and of the block. The program `test_stored` runs the same rounds over the port, so `rt check` holds it to these lines
+//! of answer and of the block. The program `test_stored` runs the same rounds over the port, so `rt ci` holds it to these lines
 //! with no Rust at hand; the suite `stored` holds the lines to the Rust. What is sent and shown comes from `crates/test_seeds` on both
 //! sides, and nothing of the harness's own chance comes in. What is answered is here the Rust's alone.
 
