@@ -1,4 +1,4 @@
--- `hex::decode` meets its contract: after i turns the first i bytes stand in their places, and every digit is one.
+-- `hex_digits::decode` meets its contract: after i turns the first i bytes stand in their places, and every digit is one.
 use Prim.Native.Nat.{◌+◌, ◌*◌}
 use mathlib.Core.Path.{◌≡◌, ◌∙◌}
 use native.Mathlib.Omega.{arith}

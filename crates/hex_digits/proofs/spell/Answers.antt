@@ -1,4 +1,4 @@
--- `hex::spell` meets its contract: after i turns the first i bytes are spelled out.
+-- `hex_digits::spell` meets its contract: after i turns the first i bytes are spelled out.
 use mathlib.Core.Path.{◌≡◌, sym, ◌∙◌}
 use native.Mathlib.Omega.{arith}
 use lib.ListN.{length, take-append-drop}

@@ -1,4 +1,4 @@
--- `hex::spells` meets its contract: all digits passed are below 16 exactly if their OR is, and an odd number of them spells nothing.
+-- `hex_digits::spells` meets its contract: all digits passed are below 16 exactly if their OR is, and an odd number of them spells nothing.
 use Prim.Native.Nat.{◌/◌}
 use mathlib.Core.Path.{refl, sym, ◌∙◌}
 use native.Mathlib.Omega.{arith}

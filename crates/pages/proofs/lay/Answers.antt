@@ -1,4 +1,4 @@
--- Each turn adds a row beneath those that are there (`rows-turn`), and nothing comes beneath the last (`rows_are`).
+-- Each turn adds a row beneath those that are there (`rows_turn`), and nothing comes beneath the last (`rows_are`).
 use mathlib.Core.Path.{refl}
 use native.Mathlib.Omega.{arith}
 use Rattle.bits.proofs.Painting.{painted_none, painted-length, painted-count}

@@ -1,4 +1,4 @@
--- Each turn lays the two plane bytes of one tile's row (`four-turn`).
+-- Each turn lays the two plane bytes of one tile's row (`four_turn`).
 use mathlib.Core.Path.{refl}
 use native.Mathlib.Omega.{arith}
 use lib.ListN.{length-set}

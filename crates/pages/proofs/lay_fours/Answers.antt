@@ -1,4 +1,4 @@
--- Each turn adds four tiles to those that are there (`fours-turn`).
+-- Each turn adds four tiles to those that are there (`fours_turn`).
 use mathlib.Core.Path.{refl}
 use native.Mathlib.Omega.{arith}
 use Rattle.bits.proofs.Painting.{painted_none, painted-length, painted-count}

@@ -1,4 +1,4 @@
--- Each turn packs the two bytes of one place (`pack-turn`).
+-- Each turn packs the two bytes of one place (`pack_turn`).
 use mathlib.Core.Path.{refl}
 use native.Mathlib.Omega.{arith}
 use lib.ListN.{length-set}

@@ -1,4 +1,4 @@
--- Each turn adds a row after those that are there (`rows-turn`).
+-- Each turn adds a row after those that are there (`rows_turn`).
 use mathlib.Core.Path.{refl}
 use native.Mathlib.Omega.{arith}
 use Rattle.bits.proofs.Painting.{painted_none, painted-count, painted-length}

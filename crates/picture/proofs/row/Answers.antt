@@ -1,4 +1,4 @@
--- Each turn adds a run after those that are there (`row-turn`).
+-- Each turn adds a run after those that are there (`row_turn`).
 use mathlib.Core.Path.{refl}
 use native.Mathlib.Omega.{arith}
 use Rattle.bits.proofs.Painting.{painted_none, painted-count, painted-length}

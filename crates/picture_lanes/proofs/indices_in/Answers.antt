@@ -1,4 +1,4 @@
--- The four planes, each spread over the lanes, weighed 1, 2, 4 and 8 (`four-planes`).
+-- The four planes, each spread over the lanes, weighed 1, 2, 4 and 8 (`four_planes`).
 use Rattle.picture_lanes.proofs.Spreads.{four_planes}
 use Rattle.picture_lanes.proofs.indices_in.Goals as goal
 

@@ -1,4 +1,4 @@
--- The part is the front of the page, and all of it is written (`files-are`).
+-- The part is the front of the page, and all of it is written (`files_are`).
 use Rattle.transfer.proofs.Parts.{files_are}
 use Rattle.transfer.proofs.landing.land_files.Goals as goal
 

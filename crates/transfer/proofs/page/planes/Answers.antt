@@ -1,4 +1,4 @@
--- Each turn writes the two plane bytes of one place (`planes-turn`).
+-- Each turn writes the two plane bytes of one place (`planes_turn`).
 use mathlib.Core.Path.{refl}
 use native.Mathlib.Omega.{arith}
 use lib.ListN.{length-set}

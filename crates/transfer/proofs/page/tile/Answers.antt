@@ -1,4 +1,4 @@
--- Each turn copies the two bytes of one row (`tile-turn`).
+-- Each turn copies the two bytes of one row (`tile_turn`).
 use mathlib.Core.Path.{refl}
 use native.Mathlib.Omega.{arith}
 use lib.ListN.{length-set}

@@ -1,4 +1,4 @@
--- Each turn adds a tile after those that are there (`tiles-turn`).
+-- Each turn adds a tile after those that are there (`tiles_turn`).
 use mathlib.Core.Path.{refl}
 use native.Mathlib.Omega.{arith}
 use Rattle.bits.proofs.Painting.{painted_none, painted-length, painted-count}
