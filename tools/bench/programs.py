@@ -20,12 +20,15 @@ def compiled(name, *words):
     return program
 
 
-def must(words, **how):
-    """Runs it; what it says goes to standard error. A failure ends this program too."""
+def must(words, status=0, **how):
+    """Runs it; what it says goes to standard error. Another status than this one ends this program too."""
     try:
-        return subprocess.run(words, check=True, **how)
-    except (OSError, subprocess.CalledProcessError) as why:
+        done = subprocess.run(words, **how)
+    except OSError as why:
         raise SystemExit(f"bench: {why}")
+    if done.returncode != status:
+        raise SystemExit(f"bench: {' '.join(words)} ended with status {done.returncode}, and not {status}")
+    return done
 
 
 def words_of(name):
@@ -43,12 +46,12 @@ class Watch:
         self.words = [compiled("watch")]
         self.told = os.path.join(OUT, "watched")
 
-    def run(self, words, settings=(), stdin=SAMPLE, stdout=os.devnull):
-        """What watch.c tells of a run on these files, as numbers. What the program says is not shown, and it has to end with status 0."""
+    def run(self, words, settings=(), stdin=SAMPLE, stdout=os.devnull, status=0):
+        """What watch.c tells of a run on these files, as numbers. What the program says is not shown, and it has to end with this status."""
         given = os.open(stdin, os.O_RDONLY)
         try:
             with open(stdout, "wb") as wrote:
-                must([*self.words, *settings, self.told, *words], stdin=given, stdout=wrote, stderr=subprocess.DEVNULL)
+                must([*self.words, *settings, self.told, *words], status, stdin=given, stdout=wrote, stderr=subprocess.DEVNULL)
         finally:
             os.close(given)
         with open(self.told) as told:
