@@ -5,7 +5,7 @@ use lib.ListN.{length}
 use Rattle.test_edges.proofs.text.line.Given as goal
 
 abbrev pub invariant-loop-i : goal.invariant-loop-i
-invariant-loop-i l = i ≤ length l.s
+invariant-loop-i l = l.i ≤ length l.s
 
 abbrev pub decreases-loop-i : goal.decreases-loop-i
-decreases-loop-i l = length l.s - i
+decreases-loop-i l = length l.s - l.i
