@@ -205,7 +205,7 @@ pub pieces-one-by-one : (b buffer ws ms : List ℕ) → valid b ≡ true → sto
 pieces-one-by-one b buffer ws [] k h = unfold by_pieces performed in refl
 pieces-one-by-one b buffer ws (m ∷ ms) k h =
     piece b buffer ws m ms k h
-    (pieces-one-by-one _ _ (drop (played_by b (take m ws)).at ws) ms (call-valid b buffer (take m ws) k h) (call-room b buffer (take m ws) k h))
+    (pieces-one-by-one (save (played_by b (take m ws)).unit) (handed (played_by b (take m ws)).told buffer) (drop (played_by b (take m ws)).at ws) ms (call-valid b buffer (take m ws) k h) (call-room b buffer (take m ws) k h))
 
 -- ---- a caller who goes on comes to the end: of a piece that is not empty some are taken; and all that one call takes, where no command is complete
 

@@ -6,7 +6,7 @@ use Rattle.log_chunks.proofs.row_line.Goals as goal
 pub row_from-requires : goal.row_from-requires
 row_from-requires c =
     let p = c.requires in
-    record { valid = p.0.0; tables_of = p.1.0; y_bound = (p.0.1, omega (arith, p.1.1.0)) }
+    record { valid = p.valid.0; tables_of = p.tables_of; y_bound = (p.valid.1, omega (arith, p.words_len.0)) }
 
 pub returns : goal.returns
 returns c =
