@@ -8,10 +8,10 @@ use Rattle.log_writer.specs.declared.State.TheVariants.{Well}
 use Rattle.log_reader.proofs.Feeding.{Turn, starts, told-turn, filled-kept, filled-less, stands_well, stands_ill, turn-whole, turn-kept}
 use Rattle.log_reader.proofs.feed.Given as goal
 
-abbrev pub invariant-loop-block : goal.invariant-loop-block
-invariant-loop-block l =
+abbrev pub invariant-loop-streams : goal.invariant-loop-streams
+invariant-loop-streams l =
     Turn l.quiet (point l.initial.reading (desk l.initial.block l.initial.line l.initial.bytes l.initial.command) l.initial.tally) l.chunk (point l.reading (desk l.block l.line l.bytes l.command) l.tally) l.at
     × ((length l.block ≡ length l.initial.block) × ((length l.line ≡ length l.initial.line) × ((length l.bytes ≡ length l.initial.bytes) × ((length l.command ≡ length l.initial.command) × (length l.out ≡ length l.initial.out)))))
 
-abbrev pub decreases-loop-block : goal.decreases-loop-block
-decreases-loop-block l = left l.reading (length l.chunk) l.at
+abbrev pub decreases-loop-streams : goal.decreases-loop-streams
+decreases-loop-streams l = left l.reading (length l.chunk) l.at

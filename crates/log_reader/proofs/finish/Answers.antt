@@ -39,12 +39,14 @@ returns c =
     let args = start.args in
     let r = args.start.reading in
     let p = point r (desk args.block.now args.line.now args.bytes.now args.command.now) args.tally.now in
-    let k = c.feed-f.ensures in
+    let f = c.feed-f in
+    let q = point f.result.reading (desk f.new.block f.new.line f.new.bytes f.new.command) f.new.tally in
+    let k = f.ensures in
     let one = last-part r c.last_lf-k.result c.last_lf-k.ensures in
     record {
-      fit = k.0.fit;
-      numbered = omega (arith, k.0.numbered, ap (λ (l : List ℕ). length l) one, last-short r);
+      fit = k.kept.fit;
+      numbered = omega (arith, k.kept.numbered, ap (λ (l : List ℕ). length l) one, last-short r);
       counts = omega arith;
       short = omega arith;
-      outcome = outcome-ends args.quiet p _ start.requires.fit k.0.fit c.feed-f.result.state _ one k.stands;
+      outcome = outcome-ends args.quiet p q start.requires.fit k.kept.fit c.feed-f.result.state _ one k.stands;
     }

@@ -62,7 +62,7 @@ returns-then-not-goes_on c =
     let args = c.args in
     let a = c.loop-turns in
     let k = c.turn-next.ensures.1 in
-    record { valid = (k.fit.valid, k.fit.number_fits); by_index = so-far-ends args.quiet _ _ _ a.read c.turn-next.result _ a.invariant.0 k _ _ refl c.post_boot.ensures (sym c.goes_on.ensures ∙ not-true c.goes_on.result c.if-not-goes_on.true) }
+    record { valid = (k.fit.valid, k.fit.number_fits); by_index = so-far-ends args.quiet _ _ _ a.read c.turn-next.result _ a.invariant.0 k _ _ refl c.post_boot.ensures (sym c.goes_on.ensures ∙ c.if-not-goes_on.true) }
 
 pub loop-turns-smaller : goal.loop-turns-smaller
 loop-turns-smaller c = omega (arith, c.loop-turns-test.true)
@@ -72,7 +72,7 @@ loop-turns-preserved c =
     let a = c.loop-turns in
     let t = c.turn-next in
     let k = t.ensures.1 in (
-      so-far-on c.args.quiet _ _ _ a.read t.result _ a.invariant.0 k (sym c.goes_on.ensures ∙ not-false c.goes_on.result c.if-not-goes_on.false),
+      so-far-on c.args.quiet _ _ _ a.read t.result _ a.invariant.0 k (sym c.goes_on.ensures ∙ c.if-not-goes_on.false),
       (
         omega (arith, k.numbered, a.invariant.1.0, c.loop-turns-test.true),
         (
@@ -81,9 +81,6 @@ loop-turns-preserved c =
         ),
       ),
     )
-
-pub write-requires : goal.write-requires
-write-requires c = tt
 
 pub shape_of-block : goal.shape_of-block
 shape_of-block c = omega (arith, c.loop-turns.invariant.1.1.1.0.block_long, c.requires.lent_sizes.block_long)

@@ -13,9 +13,9 @@ use Rattle.log_reader.proofs.read_log.Given as goal
 
 abbrev pub invariant-loop-turns : goal.invariant-loop-turns
 invariant-loop-turns l =
-    SoFar l.quiet (point begun (desk l.initial.block l.initial.line l.initial.bytes l.initial.command) l.initial.tally) l.turns (point l.turns.reading (desk l.line l.bytes l.command l.out) l.block)
-    × ((l.turns.reading.number + turns * chunk_bytes ≤ 4611686018427387905)
-    × ((l.turns.got + turns * chunk_bytes ≤ most_bytes) × (LentSizes (desk l.line l.bytes l.command l.out) × ((length l.chunk ≡ out_bytes) × (length l.read ≡ chunk_bytes)))))
+    SoFar l.quiet (point begun (desk l.initial.block l.initial.line l.initial.bytes l.initial.command) l.initial.tally) l.read (point l.read.reading (desk l.block l.line l.bytes l.command) l.tally)
+    × ((l.read.reading.number + l.turns * chunk_bytes ≤ 4611686018427387905)
+    × ((l.read.got + l.turns * chunk_bytes ≤ most_bytes) × (LentSizes (desk l.block l.line l.bytes l.command) × ((length l.out ≡ out_bytes) × (length l.chunk ≡ chunk_bytes)))))
 
 abbrev pub decreases-loop-turns : goal.decreases-loop-turns
-decreases-loop-turns l = turns
+decreases-loop-turns l = l.turns
