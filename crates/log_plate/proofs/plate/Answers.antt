@@ -5,10 +5,10 @@ use Rattle.log_plate.proofs.Closing.{closed_printed}
 use Rattle.log_plate.proofs.plate.Goals as goal
 
 pub print-whole-requires : goal.print-whole-requires
-print-whole-requires c = record { valid = c.read_log-f.ensures.0; out_len = c.read_log-f.auto.text ∙ c.requires.out_len.0 }
+print-whole-requires c = record { valid = c.read_log-f.ensures.valid; out_len = c.read_log-f.auto.out ∙ c.requires.out_len.0 }
 
 pub returns : goal.returns
 returns c =
-    let k = c.read_log-f.ensures.1 in
+    let k = c.read_log-f.ensures.by_index in
     let f = c.read_log-f.result in
     (k.0, (k.1.0, closed_printed f.state f.ended k.0 f.reading _ c.print-whole.result _ _ _ k.1.1 c.print-whole.ensures))

@@ -32,7 +32,7 @@ returns-then-not-write_out c =
     let a = c.loop-y in
     let w = c.write_out in
     rows_cut args.block.now args.tally.now a.tally a.y a.invariant.0 c.loop-y-test.true _ a.out _ refl c.row_line.ensures.out_after w.new.tally w.result
-    (not-true w.result c.if-not-write_out.true) w.ensures
+    c.if-not-write_out.true w.ensures
 
 pub loop-y-smaller : goal.loop-y-smaller
 loop-y-smaller c = omega (arith, c.loop-y-test.true)
@@ -43,7 +43,7 @@ loop-y-preserved c =
     let a = c.loop-y in
     let w = c.write_out in (
       rows_next args.block.now args.tally.now a.tally a.y a.invariant.0 c.loop-y-test.true _ a.out _ refl c.row_line.ensures.out_after w.new.tally w.result
-          (not-false w.result c.if-not-write_out.false) w.ensures,
+          c.if-not-write_out.false w.ensures,
       (c.row_line.auto.words ∙ a.invariant.1.0, c.row_line.auto.out ∙ a.invariant.1.1),
     )
 

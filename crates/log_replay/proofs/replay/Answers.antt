@@ -7,15 +7,15 @@ use Rattle.log_replay.proofs.replay.Goals as goal
 
 pub returns-then-not-is_told : goal.returns-then-not-is_told
 returns-then-not-is_told c =
-    let k = c.read_log-f.ensures.1 in
+    let k = c.read_log-f.ensures.by_index in
     let f = c.read_log-f.result in
-    (k.0, (k.1.0, failed_printed f.state f.ended k.0 f.reading _ _ _ (sym c.is_told.ensures ∙ not-true c.is_told.result c.if-not-is_told.true) k.1.1))
+    (k.0, (k.1.0, failed_printed f.state f.ended k.0 f.reading _ _ _ (sym c.is_told.ensures ∙ c.if-not-is_told.true) k.1.1))
 
 pub head-whole-requires : goal.head-whole-requires
-head-whole-requires c = (c.read_log-f.ensures.0.0, c.read_log-f.auto.text ∙ c.requires.out_len.0)
+head-whole-requires c = (c.read_log-f.ensures.valid.0, c.read_log-f.auto.out ∙ c.requires.out_len.0)
 
 pub returns : goal.returns
 returns c =
-    let k = c.read_log-f.ensures.1 in
+    let k = c.read_log-f.ensures.by_index in
     let f = c.read_log-f.result in
-    (k.0, (k.1.0, told_printed f.state f.ended k.0 f.reading _ c.head-whole.result _ _ _ c.read_log-f.ensures.0.0 (sym c.is_told.ensures ∙ not-false c.is_told.result c.if-not-is_told.false) k.1.1 c.head-whole.ensures))
+    (k.0, (k.1.0, told_printed f.state f.ended k.0 f.reading _ c.head-whole.result _ _ _ c.read_log-f.ensures.valid.0 (sym c.is_told.ensures ∙ c.if-not-is_told.false) k.1.1 c.head-whole.ensures))
