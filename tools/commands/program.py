@@ -1,8 +1,9 @@
 """Runs a program: replay or plate on a log, whose output is handed on while it is told why lines are refused; check or page on a few bytes at
 hand. And makes a status of how it ended.
 
-A program says on standard error what failed, and ends with status 1. A log that is a regular file is the program's own input, and is read a second time up to a refused line. Any other input (a pipe, a terminal) can't be: it goes through this script, which
-looks at its lines on the way."""
+A program says on standard error what failed, and ends with status 1. A log that is a regular file is the program's own input, and is read
+a second time up to a refused line. Any other input (a pipe, a terminal) can't be: it goes through this script, which looks at its lines on the
+way."""
 
 import fcntl
 import os
