@@ -1,3 +1,4 @@
-pub mod Waiting
 pub mod Calls
 pub mod Examples
+pub mod Planes
+pub mod Waiting
