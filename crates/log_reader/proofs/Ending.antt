@@ -19,7 +19,7 @@ use Rattle.log_chunks.specs.Steps.{Desk, pending, last_lf, to_tell, to_end, Fit}
 use Rattle.log_reading.specs.declared.Reading.{Reading}
 use Rattle.log_chunks.proofs.Prints.{last-tells, last-ends}
 use Rattle.log_chunks.proofs.Whole.{all_told, all_done}
-use Rattle.log_reader.specs.Read.{Behind, Point, tells_from, Begins, Goes, Onward, Finished, Cut, Halted, Stands}
+use Rattle.log_reader.specs.Read.{Behind, Point, tells_from, Begins, Goes, Onward, Finished, Stands}
 use Rattle.log_writer.specs.declared.State.{State}
 use Rattle.log_writer.specs.declared.State.TheVariants.{Well, Failed, Refused}
 

@@ -1,5 +1,5 @@
 -- A turn of feeding is a fill, told: it keeps what the steps of `log_chunks` require, leaves less to do, and goes on, or ends as `Stands` has it.
-use mathlib.Core.Path.{◌≡◌, refl, sym, ap, ap₂, ◌∙◌, subst, subst⁻¹}
+use mathlib.Core.Path.{◌≡◌, refl, sym, ap, ◌∙◌, subst, subst⁻¹}
 use mathlib.Core.Bool.{Bool, true, false, cond, false≢true}
 use mathlib.Core.List.{List, [], ◌++◌}
 use Prim.Native.Nat.{ℕ, ◌+◌, ◌-◌, ◌*◌, ◌≤◌, ◌<◌}
@@ -21,8 +21,7 @@ use Rattle.log_chunks.proofs.Fills.{Tells}
 use Rattle.log_chunks.proofs.Fulls.{full-reading, full_at, full_size, full-refused, full-fit, full-within, full-numbered, full-less}
 use Rattle.log_chunks.proofs.Prints.{Shape, fill_on, tells_on, fill_shape}
 use Rattle.log_reader.specs.Fed.{Kept}
-use Rattle.log_reader.specs.Read.{text_of, Unrefused, Stopped, is_well, ToldAs, Point, point, Goes, Onward, Cut, Halted, Stands}
-use Rattle.log_reader.specs.declared.Fed.{Fed}
+use Rattle.log_reader.specs.Read.{text_of, Unrefused, Stopped, is_well, ToldAs, Point, point, Goes, Cut, Halted, Stands}
 use Rattle.log_writer.specs.declared.State.{State}
 use Rattle.log_writer.specs.declared.State.TheVariants.{Well, Failed, Refused}
 use Rattle.log_reader.proofs.Printing.{text_none, text-quiet, printed-on, printed-cut, passed_on, stopped_on, shape_passed, shape-stopped}

@@ -6,21 +6,18 @@ use Prim.Native.Nat.{ℕ, ◌+◌, ◌-◌}
 use native.Mathlib.Omega.{arith}
 use lib.ListN.{length, take, length-append, length-take}
 use lib.Seq.{take-length}
-use Rattle.layout.specs.Block.{load}
 use Rattle.layout.specs.Fresh.{fresh, post_boot}
-use Rattle.layout.specs.Sgb.{Sgb}
 use Rattle.layout.specs.Valid.{Valid}
 use Rattle.layout.proofs.Freshes.{fresh-good}
 use Rattle.layout.proofs.Goods.{saved-valid}
 use Rattle.log_writer.specs.Tally.{tallied}
-use Rattle.log_text.specs.Text.{refusal_text}
 use Rattle.log_chunks.specs.Events.{Event, events_of, unit_after}
 use Rattle.log_chunks.specs.Texts.{refused_or, picture_lines, plate_text}
 use Rattle.log_chunks.specs.Steps.{Desk, desk, begun, to_end, Fit}
 use Rattle.log_reading.specs.declared.Reading.{Reading}
 use Rattle.log_chunks.proofs.Whole.{begins, begins-end}
 use Rattle.log_reader.specs.Fed.{LentSizes}
-use Rattle.log_reader.specs.Read.{text_of, Unrefused, Behind, reads_on, Point, point, tells_from, Begins, Goes, Onward, Finished, Cut, Halted, Stands, Turned, ReadWhole, Reached}
+use Rattle.log_reader.specs.Read.{text_of, Behind, reads_on, Point, point, tells_from, Begins, Onward, Finished, Cut, Halted, Stands, Turned, ReadWhole, Reached}
 use Rattle.log_reader.specs.declared.Read.{Read}
 use Rattle.log_writer.specs.declared.State.{State}
 use Rattle.log_writer.specs.declared.State.TheVariants.{Well, Failed, Refused}

@@ -1,7 +1,7 @@
 -- Texts one after the other: what was written goes on by what is written, and a refusal ends a plate wherever it stands.
 use mathlib.Core.Path.{◌≡◌, refl, sym, ap, ◌∙◌}
 use mathlib.Core.Bool.{Bool, true, false, false≢true}
-use mathlib.Core.List.{List, [], ◌∷◌, ◌++◌, append_assoc}
+use mathlib.Core.List.{List, [], ◌++◌, append_assoc}
 use Prim.Native.Nat.{ℕ, ◌+◌}
 use lib.ListN.{length, take, drop, take-append-drop}
 use lib.Seq.{take_at, take-append-add}

@@ -1,12 +1,11 @@
 -- A turn is a fill, told; what is left falls with it.
-use mathlib.Core.Path.{◌≡◌, refl, sym, ◌∙◌}
+use mathlib.Core.Path.{refl, sym, ◌∙◌}
 use native.Mathlib.Omega.{arith}
-use borrow.Author.Tests.{ltb-true, not-true, not-false}
-use lib.ListN.{length}
-use Rattle.log_chunks.specs.Steps.{desk, left}
+use borrow.Author.Tests.{ltb-true}
+use Rattle.log_chunks.specs.Steps.{desk}
 use Rattle.log_reader.specs.Read.{point}
 use Rattle.log_writer.specs.declared.State.TheVariants.{Well}
-use Rattle.log_reader.proofs.Feeding.{Turn, starts, told-turn, filled-kept, filled-less, stands_well, stands_ill, turn-whole, turn-kept}
+use Rattle.log_reader.proofs.Feeding.{starts, told-turn, filled-kept, filled-less, stands_well, stands_ill, turn-whole, turn-kept}
 use Rattle.log_reader.proofs.feed.Goals as goal
 
 pub loop-streams-init : goal.loop-streams-init

@@ -1,11 +1,8 @@
-use mathlib.Core.Path.{◌≡◌, refl, sym, ◌∙◌}
-use native.Mathlib.Omega.{arith}
-use borrow.Author.Tests.{ltb-true, not-true, not-false}
+use mathlib.Core.Path.{◌≡◌}
 use lib.ListN.{length}
 use Rattle.log_chunks.specs.Steps.{desk, left}
 use Rattle.log_reader.specs.Read.{point}
-use Rattle.log_writer.specs.declared.State.TheVariants.{Well}
-use Rattle.log_reader.proofs.Feeding.{Turn, starts, told-turn, filled-kept, filled-less, stands_well, stands_ill, turn-whole, turn-kept}
+use Rattle.log_reader.proofs.Feeding.{Turn}
 use Rattle.log_reader.proofs.feed.Given as goal
 
 abbrev pub invariant-loop-streams : goal.invariant-loop-streams

@@ -1,5 +1,4 @@
 -- One LF at most, which leaves nothing held.
-use borrow.Author.Rules.{rules}
 use mathlib.Core.List.{List}
 use mathlib.Core.Path.{ap}
 use Prim.Native.Nat.{ℕ}

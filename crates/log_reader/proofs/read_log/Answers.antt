@@ -1,15 +1,9 @@
 -- The turns are counted, so that lines and bytes are; each goes on from what the ones before left.
-use borrow.Author.Rules.{rules}
-use mathlib.Core.Path.{◌≡◌, refl, sym, ap, ◌∙◌}
-use Prim.Native.Nat.{◌+◌, ◌*◌, ◌-◌, ◌≤◌}
-use borrow.Author.Tests.{not-true, not-false}
+use mathlib.Core.Path.{refl, sym, ap, ◌∙◌}
 use native.Mathlib.Omega.{arith}
-use lib.ListN.{length}
-use Rattle.log_chunks.specs.Steps.{begun, desk}
+use Rattle.log_chunks.specs.Steps.{desk}
 use Rattle.log_reading.specs.declared.Reading.{Reading}
-use Rattle.log_reader.specs.Fed.{LentSizes, chunk_bytes, out_bytes, most_bytes}
-use Rattle.log_reader.specs.Read.{point}
-use Rattle.log_reader.proofs.Outcomes.{SoFar, so_far_none, so-far-on, so-far-ends, so_far-stops, boot-fit, sized-kept}
+use Rattle.log_reader.proofs.Outcomes.{so_far_none, so-far-on, so-far-ends, so_far-stops, boot-fit, sized-kept}
 use Rattle.log_reader.proofs.read_log.Goals as goal
 
 pub post_boot-requires : goal.post_boot-requires

@@ -1,6 +1,4 @@
 -- What came is no more than a chunk, and is fed once.
-use borrow.Author.Rules.{rules}
-use Prim.Native.Nat.{◌-◌}
 use native.Mathlib.Omega.{arith}
 use lib.ListN.{length-take}
 use Rattle.log_chunks.specs.Steps.{desk}
