@@ -63,7 +63,11 @@ fill-f-requires c =
     let out_long = part_is c.loop-reading.text c.loop-reading.n out_bytes room in
     let i = c.loop-reading.invariant.0 in
     let m = c.chunk_size.ensures.1.0 in
-    (i.fit, ((omega (arith, chunk_long, m, i.numbered, i.within, c.requires.1), (omega arith, omega (arith, chunk_long, m))), omega (arith, out_long)))
+    record {
+      fit = i.fit;
+      chunk_bound = (omega (arith, chunk_long, m, i.numbered, i.within, c.requires.1), (omega arith, omega (arith, chunk_long, m)));
+      out_len_bound = omega (arith, out_long);
+    }
 
 pub overflow_add-at : goal.overflow_add-at
 overflow_add-at c =
