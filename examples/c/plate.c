@@ -47,9 +47,21 @@ static void send(const char *name, const uint8_t *command, size_t len) {
 
 static void show(void) { tell("  update_screen", sporedrift_update_screen(block, sizeof block, screen, sizeof screen)); }
 
-/* The screen that carries a page, and the three showings that a transfer takes. */
+static void put_shade(unsigned x, unsigned y, unsigned shade) {
+    unsigned at = y * SPOREDRIFT_SCREEN_WIDTH + x;
+    screen[at / 4] = (uint8_t)(screen[at / 4] | shade << (6 - at % 4 * 2));
+}
+
+/* The screen whose tiles are a page of 4,096 bytes, and the three showings that a transfer takes. */
 static void transfer(const uint8_t *page) {
-    tell("  page_screen", sporedrift_page_screen(page, SPOREDRIFT_PAGE, screen, sizeof screen));
+    unsigned t, r, x;
+    memset(screen, 0, sizeof screen);
+    for (t = 0; t < 256; t++)
+        for (r = 0; r < 8; r++)
+            for (x = 0; x < 8; x++) {
+                unsigned low = page[t * 16 + r * 2] >> (7 - x) & 1, high = page[t * 16 + r * 2 + 1] >> (7 - x) & 1;
+                put_shade(t % 20 * 8 + x, t / 20 * 8 + r, high * 2 + low);
+            }
     show();
     show();
     show();
@@ -58,7 +70,7 @@ static void transfer(const uint8_t *page) {
 /* 128 tiles of colour indices that run from corner to corner: four planes, by rows. */
 static void tiles_page(uint8_t *page) {
     unsigned t, r, x, plane;
-    memset(page, 0, SPOREDRIFT_PAGE);
+    memset(page, 0, 4096);
     for (t = 0; t < 128; t++)
         for (r = 0; r < 8; r++)
             for (x = 0; x < 8; x++)
@@ -71,7 +83,7 @@ static void tiles_page(uint8_t *page) {
 /* Words of the map around the screen, and none inside; then three palettes. */
 static void map_page(uint8_t *page) {
     unsigned row, column, k;
-    memset(page, 0, SPOREDRIFT_PAGE);
+    memset(page, 0, 4096);
     for (row = 0; row < 28; row++)
         for (column = 0; column < 32; column++) {
             int inside = row >= 5 && row < 23 && column >= 6 && column < 26;
@@ -85,11 +97,6 @@ static void map_page(uint8_t *page) {
         page[0x800 + k * 2] = (uint8_t)word;
         page[0x801 + k * 2] = (uint8_t)(word >> 8);
     }
-}
-
-static void put_shade(unsigned x, unsigned y, unsigned shade) {
-    unsigned at = y * SPOREDRIFT_SCREEN_WIDTH + x;
-    screen[at / 4] = (uint8_t)(screen[at / 4] | shade << (6 - at % 4 * 2));
 }
 
 static void game_screen(void) {
@@ -160,7 +167,7 @@ int main(int argc, char **argv) {
     static const uint8_t attr_blk[16] = {0x21, 0x01, 0x03, 0x05, 4, 3, 15, 14};
     static const uint8_t chr_trn[16] = {0x99, 0x00}, pct_trn[16] = {0xA1};
     static const uint8_t two_packets[16] = {0x02};
-    uint8_t page[SPOREDRIFT_PAGE];
+    uint8_t page[4096];
 
     if (argc != 2) {
         fprintf(stderr, "usage: plate OUT.ppm\n");

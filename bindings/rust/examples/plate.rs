@@ -1,7 +1,7 @@
 //! plate OUT.ppm: what a game sends to the unit, and the picture that comes of it. It prints each answer, and writes the picture.
 //! examples/c/plate.c is the same program over the header: both print examples/plate.stdout.
 
-use sporedrift::{HEIGHT, PAGE, PICTURE, Refusal, Rgb555, SCREEN, Unit, WIDTH, calls};
+use sporedrift::{HEIGHT, PICTURE, Refusal, Rgb555, SCREEN, Unit, WIDTH, calls};
 use std::error::Error;
 use std::io::Write;
 
@@ -51,19 +51,33 @@ fn show(unit: &mut Unit, screen: &[u8]) {
     );
 }
 
-/// The screen that carries a page, and the three showings that a transfer takes.
-fn transfer(unit: &mut Unit, page: &[u8]) -> Result<(), Refusal> {
-    let screen = sporedrift::page_screen(page)?;
-    tell("  page_screen", Ok(Some(screen.len() as u32)));
+/// The screen of these shades.
+fn packed(shade: impl Fn(usize, usize) -> u8) -> Vec<u8> {
+    let mut screen = vec![0; SCREEN];
+    for at in 0..160 * 144 {
+        screen[at / 4] |= shade(at % 160, at / 160) << (6 - at % 4 * 2);
+    }
+    screen
+}
+
+/// The screen whose tiles are a page of 4,096 bytes, and the three showings that a transfer takes.
+fn transfer(unit: &mut Unit, page: &[u8]) {
+    let screen = packed(|x, y| {
+        let at = (y / 8 * 20 + x / 8) * 16 + y % 8 * 2;
+        let bit = |plane: usize| {
+            page.get(at + plane)
+                .map_or(0, |byte| byte >> (7 - x % 8) & 1)
+        };
+        bit(1) * 2 + bit(0)
+    });
     for _ in 0..3 {
         show(unit, &screen);
     }
-    Ok(())
 }
 
 /// 128 tiles of colour indices that run from corner to corner: four planes, by rows.
 fn tiles_page() -> Vec<u8> {
-    let mut page = vec![0; PAGE];
+    let mut page = vec![0; 4096];
     for (t, tile) in page.chunks_mut(32).enumerate() {
         for (r, x, plane) in (0..256).map(|i| (i / 32, i / 4 % 8, i % 4)) {
             let index = (x + r + t) % 15 + 1;
@@ -75,7 +89,7 @@ fn tiles_page() -> Vec<u8> {
 
 /// Words of the map around the screen, and none inside; then three palettes: reds, greens, blues.
 fn map_page() -> Vec<u8> {
-    let mut page = vec![0; PAGE];
+    let mut page = vec![0; 4096];
     for (row, column) in (0..896).map(|i| (i / 32, i % 32)) {
         if !((5..23).contains(&row) && (6..26).contains(&column)) {
             let word =
@@ -88,15 +102,6 @@ fn map_page() -> Vec<u8> {
         page[0x800 + k * 2..][..2].copy_from_slice(&word.to_le_bytes());
     }
     page
-}
-
-/// The screen of these shades.
-fn packed(shade: impl Fn(usize, usize) -> u8) -> Vec<u8> {
-    let mut screen = vec![0; SCREEN];
-    for at in 0..160 * 144 {
-        screen[at / 4] |= shade(at % 160, at / 160) << (6 - at % 4 * 2);
-    }
-    screen
 }
 
 fn word(colour: Rgb555) -> u32 {
@@ -198,13 +203,13 @@ fn main() -> Result<(), Box<dyn Error>> {
         "CHR_TRN",
         &[0x99, 0, 0, 0, 0, 0, 0, 0, 0, 0, 0, 0, 0, 0, 0, 0],
     );
-    transfer(&mut unit, &tiles_page())?;
+    transfer(&mut unit, &tiles_page());
     send(
         &mut unit,
         "PCT_TRN",
         &[0xA1, 0, 0, 0, 0, 0, 0, 0, 0, 0, 0, 0, 0, 0, 0, 0],
     );
-    transfer(&mut unit, &map_page())?;
+    transfer(&mut unit, &map_page());
     println!("screen");
     show(&mut unit, &packed(|x, y| ((x / 16 + y / 12) % 4) as u8));
     let picture = look(&unit)?;
