@@ -1,1 +1,2 @@
 mod Closing
+pub mod Found
