@@ -13,14 +13,14 @@ ghost use Rattle.bits.specs.Zero.{zeros};
 pub fn wide(b: u8) -> usize
     ensures { (result ≡ b) × (result < 256) }
 {
-    b as usize
+    usize::from(b)
 }
 
 // The word of two bytes.
 pub fn word(low: u8, high: u8) -> u16
     ensures { result ≡ word low high }
 {
-    (high as u16) << 8 | low as u16
+    u16::from(high) << 8 | u16::from(low)
 }
 
 pub fn low_byte(w: u16) -> u8
@@ -94,22 +94,14 @@ pub fn put(dst: &mut [u8], at: usize, src: &[u8])
     requires { at + length src.now ≤ length dst.old }
     ensures { dst.new ≡ over at (length src.now) src.now dst.old }
 {
-    let mut i: usize = 0;
-    while i < src.len() {
-        dst[at + i] = src[i];
-        i += 1;
-    }
+    dst[at..at + src.len()].copy_from_slice(src);
 }
 
 // Nothing but zeros into s.
 pub fn clear(s: &mut [u8])
     ensures { s.new ≡ replicate (length s.old) 0 }
 {
-    let mut i: usize = 0;
-    while i < s.len() {
-        s[i] = 0;
-        i += 1;
-    }
+    s.fill(0);
 }
 
 // Whether s has nothing but zeros. There is no way out before the end, so that many are looked at at once: a block with no frozen capture
@@ -118,10 +110,8 @@ pub fn all_zero(s: &[u8]) -> bool
     ensures { result ≡ zeros s.now }
 {
     let mut all: u8 = 0;
-    let mut i: usize = 0;
-    while i < s.len() {
-        all |= s[i];
-        i += 1;
+    for b in s {
+        all |= *b;
     }
     all == 0
 }

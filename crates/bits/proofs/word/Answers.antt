@@ -4,4 +4,4 @@ use Rattle.bits.proofs.Words.{or_word}
 use Rattle.bits.proofs.word.Goals as goal
 
 pub returns : goal.returns
-returns c = or_word c.args.low c.args.high (omega arith) (omega arith)
+returns c = simp (c.from.ensures, c.from-2.ensures) (or_word c.args.low c.args.high (omega arith) (omega arith))
