@@ -7,6 +7,7 @@ ghost use Rattle.hex_digits.specs.Hex.{nibble, spells, spelled, capital, hex_tex
 
 // The value of a digit of either case, or 16. Every byte of a log passes here, so the tests are such as become selections, and no branch
 // follows the digits: a line is read in half the time of the plain ranges.
+// Stays: a number, not an `Option`. `spells` joins the values of a whole text by `|`, and its contract states the value of `nibble`.
 pub fn digit(b: u8) -> u8
     ensures { result ≡ nibble b }
 {
@@ -41,10 +42,8 @@ pub fn spells(text: &[u8]) -> bool
         return false;
     }
     let mut all: u8 = 0;
-    let mut i: usize = 0;
-    while i < text.len() {
-        all |= digit(text[i]);
-        i += 1;
+    for b in text {
+        all |= digit(*b);
     }
     all < 16
 }
@@ -56,10 +55,8 @@ pub fn decode(text: &[u8], bytes: &mut [u8])
     ensures { bytes.new ≡ over 0 (length (spelled text.now)) (spelled text.now) bytes.old }
 {
     let n = text.len() / 2;
-    let mut i: usize = 0;
-    while i < n {
+    for i in 0..n {
         bytes[i] = two_digits(text[2 * i], text[2 * i + 1]);
-        i += 1;
     }
 }
 
@@ -79,10 +76,8 @@ pub fn spell(src: &[u8], out: &mut [u8], at: usize)
     requires { at + 2 * length src.now ≤ length out.old }
     ensures { out.new ≡ over at (2 * length src.now) (hex_text src.now) out.old }
 {
-    let mut i: usize = 0;
-    while i < src.len() {
-        spell_byte(src[i], out, at + 2 * i);
-        i += 1;
+    for (i, b) in src.iter().enumerate() {
+        spell_byte(*b, out, at + 2 * i);
     }
 }
 

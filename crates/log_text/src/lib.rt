@@ -65,10 +65,8 @@ pub fn row_line(words: &[u16], out: &mut [u8])
     requires in_bounds { 1025 ≤ length out.old }
     ensures { out.new ≡ over 0 (length (row_line words.now)) (row_line words.now) out.old }
 {
-    let mut i: usize = 0;
-    while i < 256 {
-        spell_word(words[i], out, 4 * i);
-        i += 1;
+    for (i, word) in words.iter().enumerate() {
+        spell_word(*word, out, 4 * i);
     }
     out[1024] = 10;
 }

@@ -9,22 +9,15 @@ use Rattle.hex_digits.proofs.spell.Goals as goal
 
 pub loop-i-init : goal.loop-i-init
 unfolding hex_text
-loop-i-init c = let start = c.args in (omega arith, (omega arith, sym (take-append-drop start.at start.out.now)))
+loop-i-init c = sym (take-append-drop c.args.at c.args.out.now)
 
 pub loop-i-preserved : goal.loop-i-preserved
 loop-i-preserved c =
-    let start = c.args in
-    let l = c.loop-i in (
-      omega arith,
-      (
-        omega arith,
-        spell_turn start.src.now start.out.now l.out _ start.at l.i (omega arith) (omega arith) l.invariant.1.1
-            c.spell_byte.ensures,
-      ),
-    )
+    let l = c.loop-i in
+    spell_turn c.args.src.now c.args.out.now l.out _ c.args.at l.i (omega arith) (omega arith) l.invariant c.spell_byte.ensures
 
 pub returns : goal.returns
 returns c =
     let s = c.args.src.now in
     let e : c.loop-i.i ≡ length s = omega arith in
-    c.loop-i.invariant.1.1 ∙ rw (e, take-length s)
+    c.loop-i.invariant ∙ rw (e, take-length s)

@@ -7,16 +7,14 @@ use Rattle.log_text.proofs.row_line.Goals as goal
 
 pub loop-i-init : goal.loop-i-init
 unfolding words_text
-loop-i-init c = (omega arith, (omega arith, refl))
+loop-i-init c = refl
 
 pub loop-i-preserved : goal.loop-i-preserved
 loop-i-preserved c =
-    let start = c.args in
     let l = c.loop-i in
-    (omega arith, (omega arith, row_turn start.words.now start.out.now l.out _ l.i (omega arith) l.invariant.1.1 c.spell_word.ensures))
+    row_turn c.args.words.now c.args.out.now l.out _ l.i (omega arith) l.invariant c.spell_word.ensures
 
 pub returns : goal.returns
 returns c =
-    let start = c.args in
     let l = c.loop-i in
-    row_end start.words.now start.out.now l.out l.i (omega arith) (omega arith) (omega arith) l.invariant.1.1
+    row_end c.args.words.now c.args.out.now l.out l.i (omega arith) (omega arith) (omega arith) l.invariant

@@ -1,12 +1,9 @@
-use Prim.Native.Nat.{◌-◌, ◌*◌, ◌≤◌}
+use Prim.Native.Nat.{◌*◌}
 use mathlib.Core.Path.{◌≡◌}
-use lib.ListN.{length, take}
+use lib.ListN.{take}
 use Rattle.bits.specs.Over.{over}
 use Rattle.log_text.specs.Text.{words_text}
 use Rattle.log_text.proofs.row_line.Given as goal
 
 abbrev pub invariant-loop-i : goal.invariant-loop-i
-invariant-loop-i l = (l.i ≤ 256) × ((length l.out ≡ length l.initial.out) × (l.out ≡ over 0 (4 * l.i) (words_text (take l.i l.words)) l.initial.out))
-
-abbrev pub decreases-loop-i : goal.decreases-loop-i
-decreases-loop-i l = 256 - l.i
+invariant-loop-i l = l.out ≡ over 0 (4 * l.i) (words_text (take l.i l.words)) l.initial.out
