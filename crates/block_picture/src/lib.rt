@@ -9,7 +9,6 @@ ghost use Rattle.layout.specs.Block.{load};
 ghost use Rattle.layout.specs.Valid.{Valid};
 ghost use Rattle.block_picture.specs.Drawn.{parts_of, backdrop_in, shade_in, border_in, row_drawn, picture_drawn};
 
-use border::BorderColor;
 use colour::{BorderMapEntry, Rgb555};
 
 pub mod of_block;
@@ -49,7 +48,7 @@ pub fn entry(block: &[u8], column: usize, row: usize) -> BorderMapEntry
     border::map_entry(of_block::map(block), column, row)
 }
 
-pub fn border(block: &[u8], x: usize, y: usize) -> BorderColor
+pub fn border(block: &[u8], x: usize, y: usize) -> Option<Rgb555>
     requires valid { Valid block.now }
     requires x_bound { (x < 256) × (y < 224) }
     ensures { colour_of result ≡ border_in (parts_of (load block.now)) x y }

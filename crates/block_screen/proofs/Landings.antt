@@ -2,6 +2,7 @@
 use mathlib.Core.Path.{◌≡◌, sym, ap, ◌∙◌}
 use mathlib.Core.Bool.{true, false}
 use mathlib.Core.List.{List}
+use Rattle.std.specs.Prelude.{Option, Some, None}
 use Prim.Native.Nat.{ℕ, ◌+◌, ◌≤◌}
 use native.Mathlib.Omega.{arith}
 use lib.Dec.{lit<, lit≤}
@@ -13,8 +14,7 @@ use Rattle.transfer.specs.Landing.{palettes_landed, files_landed, tiles_landed, 
 use Rattle.transfer.specs.Page.{page_bytes, page_of}
 use Rattle.transfer.specs.Pending.{countdown_of, kind_of}
 use Rattle.transfer.specs.Pending as pending
-use Rattle.transfer.specs.declared.pending.Landed.{Landed}
-use Rattle.transfer.specs.declared.pending.Landed.TheVariants.{Nothing, Page}
+use Rattle.transfer.specs.declared.pending.Transfer.{Transfer}
 use Rattle.transfer.specs.declared.pending.Pending.{Pending}
 use Rattle.transfer.specs.declared.pending.Transfer.TheVariants.{Palettes, Attributes, BorderTiles, BorderMap}
 use Rattle.transfer.proofs.Parts.{page-long, border_long}
@@ -72,15 +72,15 @@ module _ (b : List ℕ) (v : Valid b) where
 
   -- ---- the landings
 
-  pub nothing-landed : (x : List ℕ) → b ≡ snes_block (landed Nothing x) b
+  pub nothing-landed : (x : List ℕ) → b ≡ snes_block (landed None x) b
   unfolding snes_block landed
   nothing-landed x = sym (save-load b (clauses b v.tested))
 
-  pub palettes-landed : (x ys : List ℕ) → ys ≡ palettes_landed x → over system_at system_bytes ys b ≡ snes_block (landed (Page Palettes) x) b
+  pub palettes-landed : (x ys : List ℕ) → ys ≡ palettes_landed x → over system_at system_bytes ys b ≡ snes_block (landed (Some Palettes) x) b
   unfolding snes_block landed palettes_landed
   palettes-landed x ys q = ap (λ (l : List ℕ). over system_at system_bytes l b) q ∙ system-put (page_of x) (page-long x)
 
-  pub files-landed : (x ys : List ℕ) → ys ≡ files_landed x → over files_at files_bytes ys b ≡ snes_block (landed (Page Attributes) x) b
+  pub files-landed : (x ys : List ℕ) → ys ≡ files_landed x → over files_at files_bytes ys b ≡ snes_block (landed (Some Attributes) x) b
   unfolding snes_block landed files_landed
   files-landed x ys q =
       let l : length (page_of x) ≡ page_bytes = page-long x in
@@ -94,15 +94,15 @@ module _ (b : List ℕ) (v : Valid b) where
       over-inside b v.long 10 i half_bytes h (lit≤ tt) (page_of x)
       ∙ tiles-put (over i half_bytes (page_of x) (part tiles_at tiles_bytes b)) (length_over i half_bytes (page_of x) (part tiles_at tiles_bytes b) (omega arith) (page-long x) ∙ n)
 
-  pub lower-landed : (x ys : List ℕ) → ys ≡ tiles_landed x → over tiles_at half_bytes ys b ≡ snes_block (landed (Page (BorderTiles false)) x) b
+  pub lower-landed : (x ys : List ℕ) → ys ≡ tiles_landed x → over tiles_at half_bytes ys b ≡ snes_block (landed (Some (BorderTiles false)) x) b
   unfolding snes_block landed tiles_landed load
   lower-landed x ys q = ap (λ (l : List ℕ). over tiles_at half_bytes l b) q ∙ half-put 0 (lit≤ tt) x
 
-  pub upper-landed : (x ys : List ℕ) → ys ≡ tiles_landed x → over upper_tiles_at half_bytes ys b ≡ snes_block (landed (Page (BorderTiles true)) x) b
+  pub upper-landed : (x ys : List ℕ) → ys ≡ tiles_landed x → over upper_tiles_at half_bytes ys b ≡ snes_block (landed (Some (BorderTiles true)) x) b
   unfolding snes_block landed tiles_landed load
   upper-landed x ys q = ap (λ (l : List ℕ). over upper_tiles_at half_bytes l b) q ∙ half-put half_bytes (lit≤ tt) x
 
-  pub border-landed : (x ys : List ℕ) → ys ≡ map_landed x → over border_map_at border_bytes ys b ≡ snes_block (landed (Page BorderMap) x) b
+  pub border-landed : (x ys : List ℕ) → ys ≡ map_landed x → over border_map_at border_bytes ys b ≡ snes_block (landed (Some BorderMap) x) b
   unfolding snes_block landed
   border-landed x ys q = ap (λ (l : List ℕ). over border_map_at border_bytes l b) q ∙ border-put (map_landed x) (border_long x)
 
@@ -117,7 +117,7 @@ module _ (b : List ℕ) (v : Valid b) where
   unfolding snes_block
   captured-valid x e l q = saved-valid (with_snes (captured x) (load b)) (captured-whole x l) e q
 
-  pub all_shown : (x : List ℕ) (n : Landed) (e last : List ℕ) → length x ≡ capture_bytes → n ≡ landing (load b).snes → e ≡ snes_block (captured x) b
+  pub all_shown : (x : List ℕ) (n : Option Transfer) (e last : List ℕ) → length x ≡ capture_bytes → n ≡ landing (load b).snes → e ≡ snes_block (captured x) b
       → last ≡ snes_block (landed n x) e → last ≡ save (screened (load b) x)
   unfolding snes_block screened shown
   all_shown x n e last l p q r =

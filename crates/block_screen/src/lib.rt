@@ -8,16 +8,15 @@ ghost use Rattle.layout.specs.Valid.{Valid};
 ghost use Rattle.layout.specs.Block.{load, save};
 ghost use Rattle.parts.specs.Parts.{block_bytes, capture_bytes};
 ghost use Rattle.rules.specs.Screen as rules;
-ghost use Rattle.transfer.specs.declared.pending.Landed.TheVariants.{Page};
 ghost use Rattle.transfer.specs.declared.pending.Transfer.TheVariants.{BorderTiles};
 ghost use Rattle.block_screen.specs.Shown.{counted_down, snes_block};
 
 use parts::{BLOCK, BORDER_MAP, COUNTDOWN, FILES, KIND, LIVE, SYSTEM, TILES, UPPER_TILES};
 use transfer::landing;
-use transfer::pending::{Landed, Pending, Transfer};
+use transfer::pending::{Pending, Transfer};
 
 // Bytes 10 and 11 after a screen; the answer is what that screen makes land.
-fn count_down(block: &mut [u8]) -> Landed
+fn count_down(block: &mut [u8]) -> Option<Transfer>
     requires { length block.old ≡ block_bytes }
     ensures { (result ≡ rules.landing (load block.old).snes) × (block.new ≡ counted_down block.old) }
 {
@@ -28,7 +27,7 @@ fn count_down(block: &mut [u8]) -> Landed
 }
 
 // The screen becomes the live capture.
-fn capture(block: &mut [u8], screen: &[u8]) -> Landed
+fn capture(block: &mut [u8], screen: &[u8]) -> Option<Transfer>
     requires { Valid block.old × (length screen.now ≡ capture_bytes) }
     ensures { (result ≡ rules.landing (load block.old).snes) × (block.new ≡ snes_block (rules.captured screen.now) block.old) }
 {
@@ -40,7 +39,7 @@ fn capture(block: &mut [u8], screen: &[u8]) -> Landed
 // Half of the border's tiles.
 fn land_half(block: &mut [u8], upper_half: bool, screen: &[u8])
     requires { Valid block.old × (length screen.now ≡ capture_bytes) }
-    ensures { block.new ≡ snes_block (rules.landed (Page (BorderTiles upper_half)) screen.now) block.old }
+    ensures { block.new ≡ snes_block (rules.landed (Some (BorderTiles upper_half)) screen.now) block.old }
 {
     if upper_half {
         landing::land_tiles(&mut block[UPPER_TILES..BORDER_MAP], screen);
@@ -52,7 +51,7 @@ fn land_half(block: &mut [u8], upper_half: bool, screen: &[u8])
 // Each landing is lent its own part, and nothing else of the block.
 fn land_page(block: &mut [u8], t: Transfer, screen: &[u8])
     requires { Valid block.old × (length screen.now ≡ capture_bytes) }
-    ensures { block.new ≡ snes_block (rules.landed (Page t) screen.now) block.old }
+    ensures { block.new ≡ snes_block (rules.landed (Some t) screen.now) block.old }
 {
     match t {
         Transfer::Palettes => landing::land_palettes(&mut block[SYSTEM..FILES], screen),
@@ -62,18 +61,18 @@ fn land_page(block: &mut [u8], t: Transfer, screen: &[u8])
     }
 }
 
-fn land(block: &mut [u8], landed: Landed, screen: &[u8])
+fn land(block: &mut [u8], landed: Option<Transfer>, screen: &[u8])
     requires { Valid block.old × (length screen.now ≡ capture_bytes) }
     ensures { block.new ≡ snes_block (rules.landed landed screen.now) block.old }
 {
     match landed {
-        Landed::Nothing => {}
-        Landed::Page(t) => land_page(block, t, screen),
+        None => {}
+        Some(t) => land_page(block, t, screen),
     }
 }
 
 // A screen; the answer is what landed.
-pub fn show(block: &mut [u8], screen: &[u8]) -> Landed
+pub fn show(block: &mut [u8], screen: &[u8]) -> Option<Transfer>
     requires { Valid block.old × (length screen.now ≡ capture_bytes) }
     ensures { (result ≡ rules.landing (load block.old).snes) × (block.new ≡ save (rules.screened (load block.old) screen.now)) }
 {

@@ -1,12 +1,12 @@
 -- The border's colour at a pixel of the picture, or none where it is transparent.
 -- RULES 6.1 and 6.3; Pan Docs, Border (PCT_TRN), whose palette 7 isn't drawn, as in the Rust.
-use Rattle.std.specs.Prelude.{ℕ, ◌+◌, ◌-◌, ◌*◌, ◌/◌, ◌%◌, Bool, cond, ◌&&◌, List, eqb, leb}
+use Rattle.std.specs.Prelude.{ℕ, ◌+◌, ◌-◌, ◌*◌, ◌/◌, ◌%◌, Bool, cond, ◌&&◌, List, eqb, leb, Some, None}
+use Rattle.std.specs.Prelude as code
 use Rattle.std.proofs.Math.Option.{Option, none, some}
 use Rattle.bits.specs.Word.{word_at}
 use Rattle.colour.specs.Entry.{tile_of, palette_of, flip_x, flip_y}
 use Rattle.border.specs.Tile.{tile_part, index_in}
-use Rattle.border.specs.declared.BorderColor.{BorderColor}
-use Rattle.border.specs.declared.BorderColor.TheVariants.{Transparent, Opaque}
+use Rattle.colour.specs.declared.Rgb555.{Rgb555}
 
 -- the map word at a column and a row: 32 by 28
 unfoldable pub entry_at : List ℕ → ℕ → ℕ → ℕ
@@ -37,6 +37,6 @@ unfoldable pub border_at : List ℕ → List ℕ → List ℕ → ℕ → ℕ �
 border_at tiles map palettes x y = let w : ℕ = entry_at map (x / 8) (y / 8) in opaque palettes w (index_of tiles w (x % 8) (y % 8))
 
 -- what an answer stands for
-unfoldable pub colour_of : BorderColor → Option ℕ
-colour_of Transparent = none
-colour_of (Opaque c) = some c.0
+unfoldable pub colour_of : code.Option Rgb555 → Option ℕ
+colour_of None = none
+colour_of (Some c) = some c.0

@@ -9,14 +9,8 @@ ghost use Rattle.border.specs.Border.{entry_at, draws, flipped, index_of, in_pal
 
 use colour::{BorderMapEntry, Rgb555};
 
-#[derive(Clone, Copy)]
-pub enum BorderColor {
-    Transparent,
-    Opaque(Rgb555),
-}
-
-// The border's colour at column x and row y of the picture.
-pub fn color_at(tiles: &[u8], map: &[u8], palettes: &[u8], x: usize, y: usize) -> BorderColor
+// The border's colour at column x and row y of the picture, or none where it is transparent.
+pub fn color_at(tiles: &[u8], map: &[u8], palettes: &[u8], x: usize, y: usize) -> Option<Rgb555>
     requires tiles_len { (length tiles.now ≡ tiles_bytes) × (length map.now ≡ border_map_bytes) × (length palettes.now ≡ border_palettes_bytes) }
     requires x_bound { (x < 256) × (y < 224) }
     ensures { colour_of result ≡ border_at tiles.now map.now palettes.now x y }
@@ -24,9 +18,9 @@ pub fn color_at(tiles: &[u8], map: &[u8], palettes: &[u8], x: usize, y: usize) -
     let entry = map_entry(map, x / 8, y / 8);
     let i = index(tiles, entry, x % 8, y % 8);
     if i == 0 {
-        return BorderColor::Transparent;
+        return None;
     }
-    BorderColor::Opaque(in_palette(palettes, entry, i))
+    Some(in_palette(palettes, entry, i))
 }
 
 pub fn map_entry(map: &[u8], column: usize, row: usize) -> BorderMapEntry

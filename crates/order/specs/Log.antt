@@ -2,8 +2,9 @@
 -- may stand for each other. RULES 9.3, demand 3; the rules are those of demand 2 (`Write` and `Screen` of the crate `rules`), so that a unit which
 -- does nothing, and for which any order claim would hold, is not what this speaks of.
 use Rattle.std.specs.Prelude.{ℕ, zero, suc, ◌≡◌, Bool, cond, List, [], ◌∷◌, eqb, length}
+use Rattle.std.specs.Prelude as code
 use Rattle.std.proofs.Math.Option.{Option, none, some, IsSome}
-use Rattle.transfer.specs.declared.pending.Landed.{Landed}
+use Rattle.transfer.specs.declared.pending.Transfer.{Transfer}
 use Rattle.commands.specs.Command.{Command, plain, fixed, Fixed}
 use Rattle.parts.specs.Parts.{capture_bytes}
 use Rattle.layout.specs.Sgb.{Sgb, Snes}
@@ -23,7 +24,7 @@ accepts x = eqb (length x) capture_bytes
 -- the answer to a screen: a refusal by its number, or the kind landed or none
 pub data Seen : Type 0 where
   refused : ℕ → Seen
-  took : Landed → Seen
+  took : code.Option Transfer → Seen
 
 unfoldable pub seen : Snes → List ℕ → Seen
 seen s x = cond (accepts x) (took (landing s)) (refused 3)

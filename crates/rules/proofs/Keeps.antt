@@ -3,6 +3,7 @@ use mathlib.Core.Path.{◌≡◌, refl, ◌∙◌}
 use mathlib.Core.Bool.{Bool, true, false, cond, ◌&&◌}
 use mathlib.Core.List.{List}
 use mathlib.Core.Option.{Option, none, some}
+use Rattle.std.specs.Prelude as code
 use Prim.Native.Nat.{ℕ, ◌-◌, ◌*◌, ◌/◌, ◌<◌, ◌≤◌}
 use native.Mathlib.Omega.{arith}
 use borrow.Author.Tests.{leb-false}
@@ -22,8 +23,7 @@ use Rattle.transfer.specs.Page.{page_bytes, page_of}
 use Rattle.transfer.specs.Landing.{palettes_landed, files_landed, tiles_landed, map_landed}
 use Rattle.transfer.specs.declared.pending.Pending.{Pending}
 use Rattle.transfer.specs.declared.pending.Pending.TheVariants as P
-use Rattle.transfer.specs.declared.pending.Landed.{Landed}
-use Rattle.transfer.specs.declared.pending.Landed.TheVariants as L
+use Rattle.transfer.specs.declared.pending.Transfer.{Transfer}
 use Rattle.transfer.specs.declared.pending.Transfer.TheVariants.{Palettes, Attributes, BorderTiles, BorderMap}
 use Rattle.transfer.proofs.Parts.{page-long, border_long}
 use Rattle.parts.specs.Parts.{store_bytes, capture_bytes, tiles_bytes, half_bytes, border_bytes}
@@ -146,10 +146,10 @@ tiles-good l s e h = record {
   border_palettes = h.border_palettes;
 }
 
-landed-good : (n : Landed) (x : List ℕ) (s : Snes) → GoodSnes s → GoodSnes (landed n x s)
+landed-good : (n : code.Option Transfer) (x : List ℕ) (s : Snes) → GoodSnes s → GoodSnes (landed n x s)
 unfolding landed with_system with_files with_border palettes_landed files_landed tiles_landed
-landed-good L.Nothing x s h = h
-landed-good (L.Page Palettes) x s h = record {
+landed-good code.None x s h = h
+landed-good (code.Some Palettes) x s h = record {
   pending = h.pending;
   live = h.live;
   system = page-long x;
@@ -158,7 +158,7 @@ landed-good (L.Page Palettes) x s h = record {
   border_map = h.border_map;
   border_palettes = h.border_palettes;
 }
-landed-good (L.Page Attributes) x s h = record {
+landed-good (code.Some Attributes) x s h = record {
   pending = h.pending;
   live = h.live;
   system = h.system;
@@ -167,11 +167,11 @@ landed-good (L.Page Attributes) x s h = record {
   border_map = h.border_map;
   border_palettes = h.border_palettes;
 }
-landed-good (L.Page (BorderTiles false)) x s h =
+landed-good (code.Some (BorderTiles false)) x s h =
     tiles-good _ s (length_over 0 half_bytes (page_of x) s.tiles (omega (arith, h.tiles)) (page-long x) ∙ h.tiles) h
-landed-good (L.Page (BorderTiles true)) x s h =
+landed-good (code.Some (BorderTiles true)) x s h =
     tiles-good _ s (length_over half_bytes half_bytes (page_of x) s.tiles (omega (arith, h.tiles)) (page-long x) ∙ h.tiles) h
-landed-good (L.Page BorderMap) x s h = record {
+landed-good (code.Some BorderMap) x s h = record {
   pending = h.pending;
   live = h.live;
   system = h.system;

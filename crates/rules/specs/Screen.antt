@@ -1,10 +1,9 @@
 -- A screen: what it answers and what it leaves. RULES 5.1 to 5.4. What lands is in the crate `transfer`.
-use Rattle.std.specs.Prelude.{ℕ, true, false, List, take, drop}
+use Rattle.std.specs.Prelude.{ℕ, true, false, List, take, drop, Option, Some, None}
 use Rattle.bits.specs.Over.{over}
 use Rattle.transfer.specs.Pending as pending
 use Rattle.transfer.specs.Landing.{palettes_landed, files_landed, tiles_landed, map_landed}
-use Rattle.transfer.specs.declared.pending.Landed.{Landed}
-use Rattle.transfer.specs.declared.pending.Landed.TheVariants.{Nothing, Page}
+use Rattle.transfer.specs.declared.pending.Transfer.{Transfer}
 use Rattle.transfer.specs.declared.pending.Transfer.TheVariants.{Palettes, Attributes, BorderTiles, BorderMap}
 use Rattle.parts.specs.Parts.{half_bytes, border_map_bytes}
 use Rattle.layout.specs.Sgb.{Sgb, Snes}
@@ -67,16 +66,16 @@ with_border l s = record {
 }
 
 -- what the screen x made land goes to its part
-unfoldable pub landed : Landed → List ℕ → Snes → Snes
-landed Nothing x s = s
-landed (Page Palettes) x s = with_system (palettes_landed x) s
-landed (Page Attributes) x s = with_files (files_landed x) s
-landed (Page (BorderTiles false)) x s = with_tiles (over 0 half_bytes (tiles_landed x) s.tiles) s
-landed (Page (BorderTiles true)) x s = with_tiles (over half_bytes half_bytes (tiles_landed x) s.tiles) s
-landed (Page BorderMap) x s = with_border (map_landed x) s
+unfoldable pub landed : Option Transfer → List ℕ → Snes → Snes
+landed None x s = s
+landed (Some Palettes) x s = with_system (palettes_landed x) s
+landed (Some Attributes) x s = with_files (files_landed x) s
+landed (Some (BorderTiles false)) x s = with_tiles (over 0 half_bytes (tiles_landed x) s.tiles) s
+landed (Some (BorderTiles true)) x s = with_tiles (over half_bytes half_bytes (tiles_landed x) s.tiles) s
+landed (Some BorderMap) x s = with_border (map_landed x) s
 
 -- the kind landed, or none
-unfoldable pub landing : Snes → Landed
+unfoldable pub landing : Snes → Option Transfer
 landing s = pending.lands s.pending
 
 unfoldable pub shown : Snes → List ℕ → Snes

@@ -5,13 +5,13 @@ use Prim.Native.Nat.{ℕ, zero, suc, ◌<◌}
 use mathlib.Core.Path.{◌≡◌, refl, sym, ap, ◌∙◌}
 use mathlib.Core.Bool.{true, false}
 use native.Mathlib.Omega.{arith}
+use Rattle.std.specs.Prelude.{Some, None}
 use borrow.Author.Tests.{ne_eqb}
 use native.Mathlib.Nat.{not-suc-le-zero, le_of_suc-le-suc}
 use Rattle.bits.specs.Determined.{Once}
 use Rattle.transfer.specs.declared.pending.Transfer.{Transfer}
 use Rattle.transfer.specs.declared.pending.Transfer.TheVariants.{Palettes, Attributes, BorderTiles, BorderMap}
 use Rattle.transfer.specs.declared.pending.Pending.TheVariants.{Nothing, In}
-use Rattle.transfer.specs.declared.pending.Landed.TheVariants as page
 use Rattle.transfer.specs.Pending.{number_of, countdown_of, kind_of, named, pending_of, fallen, lands, landed_of}
 
 -- a pending transfer that is written out and read again
@@ -34,10 +34,10 @@ kind_once s t e =
 
 pub landed_once : Once landed_of
 unfolding landed_of
-landed_once page.Nothing page.Nothing e = refl
-landed_once page.Nothing (page.Page t) e = cc
-landed_once (page.Page s) page.Nothing e = cc
-landed_once (page.Page s) (page.Page t) e = ap page.Page (kind_once s t (cc))
+landed_once None None e = refl
+landed_once None (Some t) e = cc
+landed_once (Some s) None e = cc
+landed_once (Some s) (Some t) e = ap Some (kind_once s t (cc))
 
 -- the two bytes of a valid block (V4), read and written out again
 pub bytes-kept : (n k : ℕ) → 0 < n → k < 5 → (countdown_of (pending_of n k) ≡ n) × (kind_of (pending_of n k) ≡ k)
@@ -59,9 +59,9 @@ nothing-kept k = refl
 
 -- a transfer command sets the countdown to 3: two screens answer none, the third lands, and nothing is left
 pub third-screen : (t : Transfer)
-    → (lands (In 3 t) ≡ page.Nothing)
-    × (lands (fallen (In 3 t)) ≡ page.Nothing)
-    × (lands (fallen (fallen (In 3 t))) ≡ page.Page t)
+    → (lands (In 3 t) ≡ None)
+    × (lands (fallen (In 3 t)) ≡ None)
+    × (lands (fallen (fallen (In 3 t))) ≡ Some t)
     × (fallen (fallen (fallen (In 3 t))) ≡ Nothing)
 unfolding fallen lands
 third-screen t = (refl, refl, refl, refl)

@@ -1,13 +1,12 @@
 -- The pending transfer: two bytes of the block, the countdown and the kind, and what a screen does to it.
 -- RULES 1.4, 4.12 and 5.2.
-use Rattle.std.specs.Prelude.{ℕ, ◌-◌, true, false, cond, eqb, leb}
+use Rattle.std.specs.Prelude.{ℕ, ◌-◌, true, false, cond, eqb, leb, Some, None}
+use Rattle.std.specs.Prelude as code
 use Rattle.std.proofs.Math.Option.{Option, none, some}
 use Rattle.transfer.specs.declared.pending.Transfer.{Transfer}
 use Rattle.transfer.specs.declared.pending.Transfer.TheVariants.{Palettes, Attributes, BorderTiles, BorderMap}
 use Rattle.transfer.specs.declared.pending.Pending.{Pending}
 use Rattle.transfer.specs.declared.pending.Pending.TheVariants.{Nothing, In}
-use Rattle.transfer.specs.declared.pending.Landed.{Landed}
-use Rattle.transfer.specs.declared.pending.Landed.TheVariants as page
 
 -- the number of each kind (RULES 4.12); border tiles hold which half they are
 unfoldable pub number_of : Transfer → ℕ
@@ -45,11 +44,11 @@ fallen Nothing = Nothing
 fallen (In n t) = cond (leb n 1) Nothing (In (n - 1) t)
 
 -- the answer: the kind landed, or none
-unfoldable pub lands : Pending → Landed
-lands Nothing = page.Nothing
-lands (In n t) = cond (leb n 1) (page.Page t) page.Nothing
+unfoldable pub lands : Pending → code.Option Transfer
+lands Nothing = None
+lands (In n t) = cond (leb n 1) (Some t) None
 
 -- the same by its number
-unfoldable pub landed_of : Landed → Option ℕ
-landed_of page.Nothing = none
-landed_of (page.Page t) = some (number_of t)
+unfoldable pub landed_of : code.Option Transfer → Option ℕ
+landed_of None = none
+landed_of (Some t) = some (number_of t)

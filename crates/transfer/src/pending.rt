@@ -18,13 +18,6 @@ pub enum Pending {
     In { countdown: u8, transfer: Transfer },
 }
 
-// What a screen made land.
-#[derive(Clone, Copy)]
-pub enum Landed {
-    Nothing,
-    Page(Transfer),
-}
-
 impl Transfer {
     // Byte 11 of the block.
     pub fn number(self) -> u8
@@ -128,19 +121,19 @@ impl Pending {
     }
 
     // What that screen makes land.
-    pub fn lands(self) -> Landed
+    pub fn lands(self) -> Option<Transfer>
         ensures { result ≡ lands self }
     {
         match self {
-            Pending::Nothing => Landed::Nothing,
+            Pending::Nothing => None,
             Pending::In {
                 countdown,
                 transfer,
             } => {
                 if countdown <= 1 {
-                    return Landed::Page(transfer);
+                    return Some(transfer);
                 }
-                Landed::Nothing
+                None
             }
         }
     }
