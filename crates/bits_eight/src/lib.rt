@@ -4,19 +4,17 @@
 ghost use Rattle.std.specs.Prelude.{◌≡◌, ◌+◌, ◌≤◌, length};
 ghost use Rattle.bits_eight.specs.Eight.{eight_at};
 
-use bits::wide;
-
 // The eight from `at` on. In this flat form they become one load; as a loop they were eight.
 pub fn eight(s: &[u8], at: usize) -> u64
     requires { at + 8 ≤ length s.now }
     ensures { result ≡ eight_at s.now at }
 {
-    (wide(s[at])
-        | wide(s[at + 1]) << 8
-        | wide(s[at + 2]) << 16
-        | wide(s[at + 3]) << 24
-        | wide(s[at + 4]) << 32
-        | wide(s[at + 5]) << 40
-        | wide(s[at + 6]) << 48
-        | wide(s[at + 7]) << 56) as u64
+    u64::from(s[at])
+        | u64::from(s[at + 1]) << 8
+        | u64::from(s[at + 2]) << 16
+        | u64::from(s[at + 3]) << 24
+        | u64::from(s[at + 4]) << 32
+        | u64::from(s[at + 5]) << 40
+        | u64::from(s[at + 6]) << 48
+        | u64::from(s[at + 7]) << 56
 }

@@ -33,11 +33,9 @@ pub fn pal_set(palettes: &mut [u8], system: &[u8], d: &[u8])
     requires { (length palettes.old ≡ palettes_bytes) × (length system.now ≡ system_bytes) × (16 ≤ length d.now) }
     ensures { palettes.new ≡ pal_set d.now system.now }
 {
-    let mut i: usize = 0;
-    while i < 4 {
+    for i in 0..4 {
         let at = 8 * system_number(d, i);
         bits::put(palettes, 8 * i, &system[at..at + 8]);
-        i += 1;
     }
 }
 
@@ -47,5 +45,5 @@ fn system_number(d: &[u8], i: usize) -> usize
     ensures { (result ≡ system_number d.now i) × (result < 512) }
 {
     let at = 1 + 2 * i;
-    (bits::word(d[at], d[at + 1]) & 0x1FF) as usize
+    usize::from(bits::word(d[at], d[at + 1]) & 0x1FF)
 }
