@@ -14,15 +14,13 @@ pub fn pack_cells(packed: &mut [u8], cells: &[u8])
     requires { length cells.now ≡ 4 * length packed.old }
     ensures { packed.new ≡ pack_cells (length packed.old) cells.now }
 {
-    let mut i: usize = 0;
-    while i < packed.len() {
+    for i in 0..packed.len() {
         packed[i] = four(
             cells[4 * i],
             cells[4 * i + 1],
             cells[4 * i + 2],
             cells[4 * i + 3],
         );
-        i += 1;
     }
 }
 
@@ -31,14 +29,12 @@ pub fn unpack_cells(cells: &mut [u8], packed: &[u8])
     requires { 4 * length packed.now ≤ length cells.old }
     ensures { cells.new ≡ over 0 (4 * length packed.now) (unpack_cells (length packed.now) packed.now) cells.old }
 {
-    let mut i: usize = 0;
-    while i < packed.len() {
+    for i in 0..packed.len() {
         let x = packed[i];
         cells[4 * i] = pair(x, 0);
         cells[4 * i + 1] = pair(x, 1);
         cells[4 * i + 2] = pair(x, 2);
         cells[4 * i + 3] = pair(x, 3);
-        i += 1;
     }
 }
 
@@ -47,10 +43,8 @@ pub fn palette_numbers(cells: &[u8]) -> bool
     ensures { result ≡ palette_numbers cells.now }
 {
     let mut all: u8 = 0;
-    let mut i: usize = 0;
-    while i < cells.len() {
-        all |= cells[i] >> 2;
-        i += 1;
+    for cell in cells {
+        all |= *cell >> 2;
     }
     all == 0
 }

@@ -1,7 +1,6 @@
-use mathlib.Core.Path.{◌≡◌}
 use mathlib.Core.List.{List}
-use Prim.Native.Nat.{ℕ, ◌-◌, ◌*◌, ◌/◌, ◌%◌, ◌≤◌}
-use lib.ListN.{length, get_or}
+use Prim.Native.Nat.{ℕ, ◌*◌, ◌/◌, ◌%◌}
+use lib.ListN.{get_or}
 use Rattle.bits.specs.Paint.{Painted}
 use Rattle.bits.specs.Pair.{pair_of}
 use Rattle.state_cells.proofs.unpack_cells.Given as goal
@@ -10,8 +9,4 @@ abbrev pub pair_in : List ℕ → ℕ → ℕ
 pair_in l k = pair_of (get_or l (k / 4) 0) (k % 4)
 
 abbrev pub invariant-loop-i : goal.invariant-loop-i
-invariant-loop-i l =
-    (l.i ≤ length l.packed) × (length l.cells ≡ length l.initial.cells) × Painted l.cells l.initial.cells 0 (4 * l.i) (pair_in l.packed)
-
-abbrev pub decreases-loop-i : goal.decreases-loop-i
-decreases-loop-i l = length l.packed - l.i
+invariant-loop-i l = Painted l.cells l.initial.cells 0 (4 * l.i) (pair_in l.packed)
