@@ -3,9 +3,8 @@
 ghost use Rattle.std.specs.Prelude.{◌≡◌, ◌<◌, length};
 ghost use Rattle.parts.specs.Parts.{block_bytes};
 
-use crate::text::{number, say};
-use refusal::Refusal;
 use std::io::Stdout;
+use test_text::refused;
 
 pub fn examples(stdout: Stdout, block: &mut [u8])
     requires { length block.old ≡ block_bytes }
@@ -91,13 +90,6 @@ fn damaged(stdout: Stdout, block: &mut [u8], at: usize, value: u8)
 {
     let before = block[at];
     set(block, at, value);
-    tell(stdout, unit::check(block));
+    refused(stdout, unit::check(block));
     set(block, at, before);
-}
-
-pub fn tell(stdout: Stdout, told: Refusal) {
-    number(stdout, told.number() as u64);
-    say(stdout, b" at ");
-    number(stdout, told.offset() as u64);
-    say(stdout, b"\n");
 }

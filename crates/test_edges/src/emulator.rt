@@ -1,8 +1,9 @@
 // States of the emulator, by both public calls (RULES 10.2 and 11): the state that the block of `new` goes out as, changed in a thing or two.
 // (A module can't have the name of a crate that is used.) A state is one row of bytes here: `spans` has the places.
-use crate::{blocks, spans, text};
+use crate::spans;
 use bits::{all_zero, put};
 use std::io::Stdout;
+use test_text::{line, number, say};
 use view::Number;
 
 pub fn examples(stdout: Stdout, block: &mut [u8]) {
@@ -30,8 +31,8 @@ fn frozen(stdout: Stdout, block: &[u8]) {
     row[spans::FROZEN + 3] = 3;
     let mut other = [0u8; parts::BLOCK];
     comes_in(stdout, &mut other, &row, spans::NEW + 128);
-    text::line(stdout, part(&other, 0, 13));
-    text::line(stdout, part(&other, parts::FROZEN, parts::FROZEN + 2));
+    line(stdout, part(&other, 0, 13));
+    line(stdout, part(&other, parts::FROZEN, parts::FROZEN + 2));
     let again = goes_out(stdout, &other);
     whether(stdout, row == again, b"the same state\n");
 }
@@ -42,7 +43,7 @@ fn border(stdout: Stdout, block: &[u8]) {
     row[spans::TILES] = 0x55;
     let mut other = [0u8; parts::BLOCK];
     comes_in(stdout, &mut other, &row, spans::NEW);
-    text::line(stdout, part(&other, parts::TILES, parts::TILES + 2));
+    line(stdout, part(&other, parts::TILES, parts::TILES + 2));
     comes_in(stdout, &mut other, &row, spans::NEW - 1024);
     whether(
         stdout,
@@ -63,11 +64,11 @@ fn forgotten(stdout: Stdout, block: &[u8]) {
     let mut other = [0u8; parts::BLOCK];
     row[parts::KIND] = 3;
     comes_in(stdout, &mut other, &row, spans::NEW);
-    text::line(stdout, part(&other, 0, 13));
+    line(stdout, part(&other, 0, 13));
     row[parts::KIND] = 0;
     row[spans::CAPTURE] = 0xFF;
     comes_in(stdout, &mut other, &row, spans::NEW);
-    text::line(stdout, part(&other, parts::LIVE, parts::LIVE + 2));
+    line(stdout, part(&other, parts::LIVE, parts::LIVE + 2));
 }
 
 // No capture; a cell that is no palette number; an idle receiver with a data bit.
@@ -84,7 +85,7 @@ fn refused(stdout: Stdout, block: &[u8]) {
 
 // No packet is in, so the packets have no bytes.
 fn comes_in(stdout: Stdout, block: &mut [u8], row: &[u8], present: u16) {
-    blocks::tell(
+    test_text::refused(
         stdout,
         state::from_state(
             block,
@@ -210,18 +211,18 @@ fn lay(row: &mut [u8], at: usize, span: &[u8]) {
 
 fn tell(stdout: Stdout, told: Number) {
     match told {
-        Number::Refused(r) => blocks::tell(stdout, r),
+        Number::Refused(r) => test_text::refused(stdout, r),
         Number::Is(present) => {
-            text::say(stdout, b"out, presence ");
-            text::number(stdout, present as u64);
-            text::say(stdout, b"\n");
+            say(stdout, b"out, presence ");
+            number(stdout, present as u64);
+            say(stdout, b"\n");
         }
     }
 }
 
 fn whether(stdout: Stdout, is: bool, what: &[u8]) {
     if !is {
-        text::say(stdout, b"not ");
+        say(stdout, b"not ");
     }
-    text::say(stdout, what);
+    say(stdout, what);
 }

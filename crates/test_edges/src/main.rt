@@ -8,7 +8,6 @@ mod maps;
 mod replays;
 mod screens;
 mod spans;
-mod text;
 mod verdicts;
 
 fn main(rt: HostRuntime) {

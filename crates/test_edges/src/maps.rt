@@ -3,8 +3,8 @@ ghost use Rattle.std.specs.Prelude.{◌≡◌, length};
 ghost use Rattle.parts.specs.Parts.{block_bytes, map_bytes};
 
 use crate::replays::command;
-use crate::text;
 use std::io::Stdout;
+use test_text::say;
 
 pub fn examples(stdout: Stdout, block: &mut [u8])
     requires { length block.old ≡ block_bytes }
@@ -54,5 +54,5 @@ pub fn row(stdout: Stdout, packed: &[u8])
     for x in 0..20 {
         line[x] = b'0' | bits::pair(packed[x / 4], (x % 4) as u8);
     }
-    text::say(stdout, &line);
+    say(stdout, &line);
 }

@@ -3,9 +3,9 @@
 ghost use Rattle.std.specs.Prelude.{◌≡◌, length};
 ghost use Rattle.parts.specs.Parts.{block_bytes};
 
-use crate::text;
 use std::io::Stdout;
-use unit::{Played, Written};
+use test_text::line;
+use test_text::sent::{completed, played};
 
 pub fn examples(stdout: Stdout, block: &mut [u8])
     requires { length block.old ≡ block_bytes }
@@ -37,52 +37,20 @@ pub fn command(stdout: Stdout, d: &[u8], block: &mut [u8])
     replay(stdout, &pulses, block);
 }
 
-// A command of one packet or two by writes in a row: how many were taken, the command, and the block's first 13 bytes.
-pub fn played(stdout: Stdout, d: &[u8], block: &mut [u8])
-    requires { length block.old ≡ block_bytes }
-{
-    unit::post_boot(block);
-    let mut pulses = [0u8; 2 * 260];
-    pulses::encode(d, &mut pulses);
-    let mut command = [0u8; parts::STORE_BYTES];
-    let told = unit::play(block, &pulses, &mut command);
-    counted(stdout, told, &command);
-    text::line(stdout, &block[0..13]);
-}
-
-fn counted(stdout: Stdout, told: Played, command: &[u8]) {
-    let Played::Command(at, n) = told else {
-        return;
-    };
-    let number = [(at / 256 % 256) as u8, (at % 256) as u8];
-    text::line(stdout, &number);
-    show(stdout, Written::Command(n), command);
-}
-
 fn replay(stdout: Stdout, writes: &[u8], block: &mut [u8])
     requires { length block.old ≡ block_bytes }
 {
     unit::post_boot(block);
     let mut command = [0u8; parts::STORE_BYTES];
     send(stdout, writes, block, &mut command);
-    text::line(stdout, &block[0..13]);
+    line(stdout, &block[0..13]);
 }
 
 fn send(stdout: Stdout, writes: &[u8], block: &mut [u8], command: &mut [u8]) {
     let mut i: usize = 0;
     while i < writes.len() {
         let told = unit::write_joypad(block, writes[i], command);
-        show(stdout, told, command);
+        completed(stdout, told, command);
         i += 1;
-    }
-}
-
-fn show(stdout: Stdout, told: Written, command: &[u8]) {
-    let Written::Command(n) = told else {
-        return;
-    };
-    let end = 16 * bits::wide(n);
-    if end <= command.len() {
-        text::line(stdout, &command[0..end]);
     }
 }

@@ -5,11 +5,11 @@ ghost use Rattle.parts.specs.Parts.{block_bytes};
 
 use crate::emulator::part;
 use crate::maps::row;
-use crate::replays::played;
-use crate::text::{number, say};
 use bits::{high_byte, low_byte, put, wide};
 use pulses::Conformance;
 use std::io::Stdout;
+use test_text::sent::played;
+use test_text::{number, say};
 
 const ATTR_BLK: u8 = 0x04;
 
@@ -61,9 +61,9 @@ fn cells(stdout: Stdout) {
 // The verdict on a command of this code that announces so many items in so many packets.
 fn judge(stdout: Stdout, code: u8, packets: u8, count: u16) {
     say(stdout, b"packets ");
-    number(stdout, packets as u64);
+    number(stdout, u64::from(packets));
     name(stdout, code);
-    number(stdout, count as u64);
+    number(stdout, u64::from(count));
     say(stdout, b": ");
     let d = announcing(code, packets, count);
     tell(stdout, pulses::verdict(part(&d, 0, 16 * wide(packets))));

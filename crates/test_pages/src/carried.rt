@@ -4,11 +4,9 @@ ghost use Rattle.std.specs.Prelude.{◌≡◌, ◌+◌, ◌<◌, ◌≤◌, leng
 ghost use Rattle.parts.specs.Parts.{block_bytes, capture_bytes};
 ghost use Rattle.transfer.specs.Page.{page_bytes};
 
-use crate::sent::{played, show};
-use crate::text;
-use crate::text::say;
-use refusal::Refusal;
 use std::io::Stdout;
+use test_text::sent::{played, show};
+use test_text::{line, number, refused, say};
 use transfer::page::PAGE_BYTES;
 use view::Number;
 
@@ -26,10 +24,10 @@ pub fn examples(stdout: Stdout, block: &mut [u8])
     carried(stdout, 4094, 0, 1, 4150);
     full(stdout);
     // a page of another length comes before an output that is short
-    refused(stdout, PAGE_BYTES - 1, parts::CAPTURE_BYTES);
-    refused(stdout, PAGE_BYTES + 1, parts::CAPTURE_BYTES);
-    refused(stdout, PAGE_BYTES - 1, parts::CAPTURE_BYTES - 1);
-    refused(stdout, PAGE_BYTES, parts::CAPTURE_BYTES - 1);
+    misfit(stdout, PAGE_BYTES - 1, parts::CAPTURE_BYTES);
+    misfit(stdout, PAGE_BYTES + 1, parts::CAPTURE_BYTES);
+    misfit(stdout, PAGE_BYTES - 1, parts::CAPTURE_BYTES - 1);
+    misfit(stdout, PAGE_BYTES, parts::CAPTURE_BYTES - 1);
     lands(stdout, block);
 }
 
@@ -40,11 +38,11 @@ fn carried(stdout: Stdout, at: usize, low: u8, high: u8, shown: usize)
     let mut screen = [0u8; parts::CAPTURE_BYTES];
     pages::page_screen(&page, &mut screen);
     say(stdout, b"page byte ");
-    text::number(stdout, at as u64);
+    number(stdout, at as u64);
     say(stdout, b", screen byte ");
-    text::number(stdout, shown as u64);
+    number(stdout, shown as u64);
     say(stdout, b": ");
-    text::line(stdout, &screen[shown..shown + 2]);
+    line(stdout, &screen[shown..shown + 2]);
 }
 
 // A page of zeros but for two bytes.
@@ -62,11 +60,11 @@ fn full(stdout: Stdout) {
     let page = [0xFFu8; PAGE_BYTES];
     let mut out = [0xAAu8; parts::CAPTURE_BYTES + 2];
     tell(stdout, pages::page_screen(&page, &mut out));
-    text::line(stdout, &out[4150..4154]);
-    text::line(stdout, &out[5758..5762]);
+    line(stdout, &out[4150..4154]);
+    line(stdout, &out[5758..5762]);
 }
 
-fn refused(stdout: Stdout, bytes: usize, room: usize)
+fn misfit(stdout: Stdout, bytes: usize, room: usize)
     requires { (bytes ≤ page_bytes + 1) × (room ≤ capture_bytes) }
 {
     let page = [0u8; PAGE_BYTES + 1];
@@ -79,19 +77,12 @@ fn refused(stdout: Stdout, bytes: usize, room: usize)
 
 fn tell(stdout: Stdout, told: Number) {
     match told {
-        Number::Refused(r) => name(stdout, r),
+        Number::Refused(r) => refused(stdout, r),
         Number::Is(n) => {
-            text::number(stdout, n as u64);
+            number(stdout, n as u64);
             say(stdout, b" bytes\n");
         }
     }
-}
-
-fn name(stdout: Stdout, told: Refusal) {
-    text::number(stdout, told.number() as u64);
-    say(stdout, b" at ");
-    text::number(stdout, told.offset() as u64);
-    say(stdout, b"\n");
 }
 
 // A first colour of 1234 hex; the two screens before it are blank.

@@ -2,8 +2,6 @@
 #![tactic(auto)]
 
 mod carried;
-mod sent;
-mod text;
 
 fn main(rt: HostRuntime) {
     let stdout = rt.stdout();

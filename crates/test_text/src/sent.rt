@@ -1,11 +1,11 @@
-// A command that is sent, and screens: what each leaves of the block, as `test_edges` prints it.
+// A command that is sent, and screens: what each leaves of the block.
 ghost use Rattle.std.specs.Prelude.{◌≡◌, ◌+◌, ◌≤◌, length};
 ghost use Rattle.parts.specs.Parts.{block_bytes};
 
-use crate::text;
+use crate::{line, number, say};
 use std::io::Stdout;
 use transfer::pending::Landed;
-use unit::{Played, Shown};
+use unit::{Played, Shown, Written};
 
 // A command of one packet or two by writes in a row: how many were taken, the command, and the block's first 13 bytes.
 pub fn played(stdout: Stdout, d: &[u8], block: &mut [u8])
@@ -17,18 +17,26 @@ pub fn played(stdout: Stdout, d: &[u8], block: &mut [u8])
     let mut command = [0u8; parts::STORE_BYTES];
     let told = unit::play(block, &pulses, &mut command);
     counted(stdout, told, &command);
-    text::line(stdout, &block[0..13]);
+    line(stdout, &block[0..13]);
 }
 
 fn counted(stdout: Stdout, told: Played, command: &[u8]) {
     let Played::Command(at, n) = told else {
         return;
     };
-    let number = [(at / 256 % 256) as u8, (at % 256) as u8];
-    text::line(stdout, &number);
+    let taken = [(at / 256 % 256) as u8, (at % 256) as u8];
+    line(stdout, &taken);
+    completed(stdout, Written::Command(n), command);
+}
+
+// The command that a write completes.
+pub fn completed(stdout: Stdout, told: Written, command: &[u8]) {
+    let Written::Command(n) = told else {
+        return;
+    };
     let end = 16 * bits::wide(n);
     if end <= command.len() {
-        text::line(stdout, &command[0..end]);
+        line(stdout, &command[0..end]);
     }
 }
 
@@ -37,29 +45,29 @@ pub fn show(stdout: Stdout, screen: &[u8], block: &mut [u8], part: usize)
     requires { (length block.old ≡ block_bytes) × (part + 2 ≤ block_bytes) }
 {
     tell(stdout, unit::update_screen(block, screen));
-    text::line(stdout, &block[part..part + 2]);
+    line(stdout, &block[part..part + 2]);
 }
 
 fn tell(stdout: Stdout, told: Shown) {
     match told {
         Shown::Refused(r) => {
-            text::say(stdout, b"refused ");
-            text::number(stdout, r.number() as u64);
+            say(stdout, b"refused ");
+            number(stdout, u64::from(r.number()));
         }
         Shown::Took(landed) => name(stdout, landed),
     }
-    text::say(stdout, b", the part starts ");
+    say(stdout, b", the part starts ");
 }
 
 fn name(stdout: Stdout, landed: Landed) {
     match landed {
         Landed::Nothing => {
-            text::say(stdout, b"nothing lands");
+            say(stdout, b"nothing lands");
         }
         Landed::Page(transfer) => {
-            text::say(stdout, b"kind ");
-            text::number(stdout, transfer.number() as u64);
-            text::say(stdout, b" lands");
+            say(stdout, b"kind ");
+            number(stdout, u64::from(transfer.number()));
+            say(stdout, b" lands");
         }
     }
 }

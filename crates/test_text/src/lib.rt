@@ -1,0 +1,32 @@
+// What the worked examples print, in `test_edges` and in `test_pages`: bytes in upper-case hexadecimal, as RULES 8.5 has them, a line each.
+#![tactic(auto)]
+
+pub mod sent;
+
+use refusal::Refusal;
+use std::io::Stdout;
+
+pub fn line(stdout: Stdout, s: &[u8]) {
+    for x in s {
+        let _ = print!(stdout; "{x:02X}");
+    }
+    say(stdout, b"\n");
+}
+
+// A write that fails is passed over: what is missing is seen beside the file `stdout`.
+pub fn say(stdout: Stdout, what: &[u8]) {
+    let _ = stdout.write_all(what);
+}
+
+// In decimal.
+pub fn number(stdout: Stdout, n: u64) {
+    let _ = stdout.print(n);
+}
+
+// A refusal's number, and the offset that may come with it.
+pub fn refused(stdout: Stdout, told: Refusal) {
+    number(stdout, u64::from(told.number()));
+    say(stdout, b" at ");
+    number(stdout, told.offset() as u64);
+    say(stdout, b"\n");
+}
