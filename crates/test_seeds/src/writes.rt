@@ -32,61 +32,47 @@ pub fn plan(round: usize, first: u8, sent: &mut [u8], writes: &mut [u8]) -> usiz
 fn packets(first: u8) -> usize
     ensures { (0 < result) × (result < 8) }
 {
-    if first >= 0xF0 {
-        return 1;
+    match first % 8 {
+        0 => 1,
+        n if first < 0xF0 => usize::from(n),
+        _ => 1,
     }
-    if first % 8 == 0 {
-        return 1;
-    }
-    bits::wide(first % 8)
 }
 
 // Whether the count is 0.
 fn empty(first: u8) -> bool {
-    if first >= 0xF0 {
-        return false;
-    }
-    first % 8 == 0
+    first < 0xF0 && first % 8 == 0
 }
 
 // A command of noise, or of data nearer to the map than noise is. The encoder refuses a count of 0, so it is given 1.
 fn make(from: u64, first: u8, d: &mut [u8]) {
     let shaped = byte(from) < 128;
     let mut x = from;
-    let mut i = 0;
-    while i < d.len() {
+    for (i, b) in d.iter_mut().enumerate() {
         x = step(x);
-        d[i] = data(first, i, byte(x), shaped);
-        i += 1;
+        *b = data(first, i, byte(x), shaped);
     }
 }
 
 fn data(first: u8, i: usize, noise: u8, shaped: bool) -> u8 {
-    if i == 0 {
-        return if empty(first) { first | 1 } else { first };
+    match i {
+        0 if empty(first) => first | 1,
+        0 => first,
+        _ if shaped => noise & mask(first >> 3, i),
+        _ => noise,
     }
-    if shaped {
-        return noise & mask(first >> 3, i);
-    }
-    noise
 }
 
 // ATTR_BLK's count and corners, ATTR_DIV's line and ATTR_CHR's start below 32; ATTR_CHR's count below 512, along rows or down columns.
 fn mask(code: u8, i: usize) -> u8 {
-    if code == 4 {
+    match (code, i) {
         // control and palettes stand at 2 and 3 of every six
-        return if i % 6 / 2 == 1 { 0xFF } else { 0x1F };
+        (4, _) if i % 6 / 2 != 1 => 0x1F,
+        (6, 2) => 0x1F,
+        (7, 0..3) => 0x1F,
+        (7, 4 | 5) => 1,
+        _ => 0xFF,
     }
-    if code == 6 {
-        return if i == 2 { 0x1F } else { 0xFF };
-    }
-    if code == 7 {
-        if i < 3 {
-            return 0x1F;
-        }
-        return if i / 2 == 2 { 1 } else { 0xFF };
-    }
-    0xFF
 }
 
 // The pulses of the command; a count of 0 is that of 1 with its one bit cleared.
@@ -119,10 +105,7 @@ fn spoil(round: usize, writes: &mut [u8]) -> usize
 }
 
 fn sound(round: usize) -> bool {
-    if round < 512 {
-        return true;
-    }
-    round % 2 == 1
+    round < 512 || round % 2 == 1
 }
 
 // Lines at random, none in every second round; then polling, in which P15 rises at every fourth write. Answers how many.
@@ -131,11 +114,9 @@ fn idle(from: u64, out: &mut [u8]) -> usize
 {
     let noisy = lines(below(from, 64));
     let mut x = from;
-    let mut i = 0;
-    while i < out.len() {
+    for (i, write) in out.iter_mut().enumerate() {
         x = step(x);
-        out[i] = wait(i, noisy, byte(x));
-        i += 1;
+        *write = wait(i, noisy, byte(x));
     }
     noisy + below(x, 65)
 }
@@ -147,10 +128,8 @@ fn lines(n: usize) -> usize
 }
 
 fn wait(i: usize, noisy: usize, noise: u8) -> u8 {
-    if i < noisy {
-        return noise;
-    }
     match i % 4 {
+        _ if i < noisy => noise,
         1 => 0x20,
         2 => 0x10,
         _ => 0x30,

@@ -1,5 +1,5 @@
 // The calls that only look: the mask, the backdrop, single colours and map words, a row, and at every fourth round the picture.
-use crate::digest::{number, words};
+use crate::digest::{all, number};
 use refusal::Refusal;
 use test_seeds::{below, byte, step, stream};
 
@@ -15,11 +15,9 @@ pub fn look(round: usize, block: &[u8], h: u64) -> u64 {
 fn some(h: u64, block: &[u8], from: u64) -> u64 {
     let mut x = from;
     let mut d = h;
-    let mut i: usize = 0;
-    while i < 8 {
+    for _ in 0..8 {
         x = step(x);
         d = at(d, block, x);
-        i += 1;
     }
     d
 }
@@ -42,13 +40,13 @@ fn at(h: u64, block: &[u8], x: u64) -> u64 {
 fn row(h: u64, block: &[u8], y: usize) -> u64 {
     let mut out = [0u16; 256];
     let d = with_number(h, view::row(block, y, &mut out));
-    words(d, &out)
+    all(d, &out)
 }
 
 fn picture(h: u64, block: &[u8]) -> u64 {
     let mut out = [0u16; 57344];
     let d = with_number(h, view::picture(block, &mut out));
-    words(d, &out)
+    all(d, &out)
 }
 
 // A refusal n is 0x80000000 + n, which no answer is.
@@ -66,14 +64,14 @@ fn with_number(h: u64, told: view::Number) -> u64 {
 fn colour(h: u64, told: view::Colour) -> u64 {
     match told {
         view::Colour::Refused(n) => refused(h, n),
-        view::Colour::Is(c) => number(h, c.0 as u64),
+        view::Colour::Is(c) => number(h, u64::from(c.0)),
     }
 }
 
 fn entry(h: u64, told: view::Entry) -> u64 {
     match told {
         view::Entry::Refused(n) => refused(h, n),
-        view::Entry::Is(word) => number(h, word.0 as u64),
+        view::Entry::Is(word) => number(h, u64::from(word.0)),
     }
 }
 
@@ -82,6 +80,6 @@ fn border(h: u64, told: view::Border) -> u64 {
     match told {
         view::Border::Refused(n) => refused(h, n),
         view::Border::Transparent => number(h, 0x40000000),
-        view::Border::Opaque(c) => number(h, c.0 as u64),
+        view::Border::Opaque(c) => number(h, u64::from(c.0)),
     }
 }

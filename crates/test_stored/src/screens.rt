@@ -15,12 +15,10 @@ pub fn show(round: usize, block: &mut [u8], h: u64) -> u64 {
 fn update(count: usize, from: u64, block: &mut [u8], screen: &mut [u8], h: u64) -> u64 {
     let mut x = from;
     let mut d = h;
-    let mut i = 0;
-    while i < count {
+    for _ in 0..count {
         x = step(x);
         draw(screen, x);
         d = answer(d, unit::update_screen(block, screen));
-        i += 1;
     }
     d
 }
@@ -36,6 +34,6 @@ fn answer(h: u64, told: Shown) -> u64 {
 fn kind(landed: Landed) -> u64 {
     match landed {
         Landed::Nothing => 255,
-        Landed::Page(transfer) => transfer.number() as u64,
+        Landed::Page(transfer) => u64::from(transfer.number()),
     }
 }

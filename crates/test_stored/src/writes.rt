@@ -1,5 +1,5 @@
 // The round's writes, one by one.
-use crate::digest::{bytes, number};
+use crate::digest::{all, number};
 use unit::Written;
 
 // The digest of all that the round's writes tell.
@@ -13,11 +13,9 @@ pub fn write(round: usize, first: u8, block: &mut [u8], h: u64) -> u64 {
 
 fn send(block: &mut [u8], writes: &[u8], command: &mut [u8], h: u64) -> u64 {
     let mut d = h;
-    let mut i = 0;
-    while i < writes.len() {
-        let told = unit::write_joypad(block, writes[i], command);
+    for write in writes {
+        let told = unit::write_joypad(block, *write, command);
         d = answer(d, told, command);
-        i += 1;
     }
     d
 }
@@ -27,6 +25,6 @@ fn answer(h: u64, told: Written, command: &[u8]) -> u64 {
     match told {
         Written::Refused(n) => number(h, 256 + (n.0 as u64)),
         Written::Nothing => number(h, 0),
-        Written::Command(n) => bytes(number(h, n as u64), command),
+        Written::Command(n) => all(number(h, u64::from(n)), command),
     }
 }
