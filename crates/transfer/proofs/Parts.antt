@@ -1,7 +1,7 @@
 -- A part that is copied over from its front to its end holds what was copied, and nothing of what it held: so a landing leaves what the page has.
 use mathlib.Core.Path.{◌≡◌, sym, ap, ap₂, ◌∙◌}
 use mathlib.Core.List.{List, ◌++◌}
-use Prim.Native.Nat.{ℕ, ◌+◌, ◌/◌, ◌%◌}
+use Prim.Native.Nat.{ℕ, ◌/◌, ◌%◌}
 use native.Mathlib.Omega.{arith}
 use lib.ListN.{length, take, drop, length-append, length-take, length-drop}
 use Rattle.parts.specs.Parts.{files_bytes, border_map_bytes, border_palettes_bytes, border_bytes}

@@ -1,10 +1,11 @@
 -- The pending transfer: two bytes of the block, the countdown and the kind, and what a screen does to it.
 -- RULES 1.4, 4.12 and 5.2.
-use Rattle.std.specs.Prelude.{ℕ, ◌-◌, true, false, cond, eqb, leb, Some, None}
+use Rattle.std.specs.Prelude.{◌≡◌, ℕ, ◌-◌, ◌<◌, true, false, cond, eqb, leb, Some, None, Result, Ok, Err}
 use Rattle.std.specs.Prelude as code
 use Rattle.std.proofs.Math.Option.{Option, none, some}
 use Rattle.transfer.specs.declared.pending.Transfer.{Transfer}
 use Rattle.transfer.specs.declared.pending.Transfer.TheVariants.{Palettes, Attributes, BorderTiles, BorderMap}
+use Rattle.transfer.specs.declared.pending.UnknownKind.{UnknownKind}
 use Rattle.transfer.specs.declared.pending.Pending.{Pending}
 use Rattle.transfer.specs.declared.pending.Pending.TheVariants.{Nothing, In}
 
@@ -15,6 +16,11 @@ number_of Attributes = 1
 number_of (BorderTiles false) = 2
 number_of (BorderTiles true) = 3
 number_of BorderMap = 4
+
+-- the kind that a number names, or none above 4
+abbrev pub NamedBy : ℕ → Result Transfer UnknownKind → Type 0
+NamedBy n (Ok t) = n ≡ number_of t
+NamedBy n (Err e) = 4 < n
 
 -- byte 10, the countdown, and byte 11, the kind: both 0 where nothing is pending
 unfoldable pub countdown_of : Pending → ℕ

@@ -41,14 +41,12 @@ fn planes(rows: &mut [u8], screen: &[u8])
     requires screen_len { length screen.now ≡ capture_bytes }
     ensures { rows.new ≡ planes_of screen.now }
 {
-    let mut k = 0;
-    while k < 2080 {
+    for k in 0..2080 {
         let i = 2 * k;
         let a = screen[i];
         let b = screen[i + 1];
         rows[i] = bits::low_plane(a, b);
         rows[i + 1] = bits::high_plane(a, b);
-        k += 1;
     }
 }
 
@@ -58,10 +56,8 @@ fn tiles(out: &mut [u8], rows: &[u8])
     requires rows_len { length rows.now ≡ 4160 }
     ensures { Painted out.new out.old 0 page_bytes (tiles_byte rows.now) }
 {
-    let mut t = 0;
-    while t < 256 {
+    for t in 0..256 {
         tile(out, rows, t);
-        t += 1;
     }
 }
 
@@ -73,12 +69,10 @@ fn tile(out: &mut [u8], rows: &[u8], t: usize)
     ensures { Painted out.new out.old (t * 16) 16 (tile_byte rows.now t) }
 {
     let at = t / 20 * 320 + t % 20 * 2;
-    let mut r = 0;
-    while r < 8 {
+    for r in 0..8 {
         let i = at + r * 40;
         let o = t * 16 + 2 * r;
         out[o] = rows[i];
         out[o + 1] = rows[i + 1];
-        r += 1;
     }
 }
