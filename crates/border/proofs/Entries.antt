@@ -8,29 +8,13 @@ use mathlib.Core.List.{List}
 use mathlib.Core.Option.{none, some}
 use lib.Dec.{leb}
 use lib.ListN.{length, get_or, length-take, length-drop}
-use borrow.Author.Tests.{le-leb, lt-leb, eq-eqb, ne_eqb, leb-true}
+use borrow.Author.Tests.{le-leb, eq-eqb, ne_eqb, leb-true}
 use Rattle.parts.specs.Parts.{tiles_bytes}
 use Rattle.bits.proofs.Planes.{bit-lt}
-use Rattle.bits.proofs.Tests.{and_left, and_right, and-false}
+use Rattle.bits.proofs.Tests.{and_left, and_right}
 use Rattle.colour.specs.Entry.{tile_of, palette_of, flip_x, flip_y}
 use Rattle.border.specs.Tile.{tile_part, index_in}
 use Rattle.border.specs.Border.{entry_at, draws, flipped, index_of, in_palette, opaque, border_at}
-
--- the three tests, in the code's order
-pub far-tile : (w n : ℕ) → n ≡ tile_of w → 255 < n → draws w ≡ false
-unfolding draws
-far-tile w n e h = ap (λ (b : Bool). b && (leb 4 (palette_of w) && leb (palette_of w) 6)) (ap (λ (k : ℕ). leb k 255) (sym e) ∙ lt-leb n 255 h)
-
-pub low-palette : (w p : ℕ) → p ≡ palette_of w → p < 4 → draws w ≡ false
-unfolding draws
-low-palette w p e h =
-    ap (λ (b : Bool). leb (tile_of w) 255 && (b && leb (palette_of w) 6)) (ap (λ (k : ℕ). leb 4 k) (sym e) ∙ lt-leb 4 p h)
-    ∙ and-false (leb (tile_of w) 255)
-
-pub last_test : (w n p : ℕ) → n ≡ tile_of w → p ≡ palette_of w → n ≤ 255 → 4 ≤ p → draws w ≡ leb p 6
-unfolding draws
-last_test w n p e f h k =
-    (λ i. leb (sym e i) 255 && (leb 4 (sym f i) && leb (sym f i) 6)) ∙ (λ i. le-leb n 255 h i && (le-leb 4 p k i && leb p 6))
 
 -- what a word that draws names
 pub drawn-tile : (w : ℕ) → draws w ≡ true → tile_of w ≤ 255

@@ -16,13 +16,13 @@ pub fn color_at(tiles: &[u8], map: &[u8], palettes: &[u8], x: usize, y: usize) -
     ensures { colour_of result ≡ border_at tiles.now map.now palettes.now x y }
 {
     let entry = map_entry(map, x / 8, y / 8);
-    let i = index(tiles, entry, x % 8, y % 8);
-    if i == 0 {
-        return None;
+    match index(tiles, entry, x % 8, y % 8) {
+        0 => None,
+        i => Some(in_palette(palettes, entry, i)),
     }
-    Some(in_palette(palettes, entry, i))
 }
 
+#[tactic(auto, unfolding(crate::specs::Border::entry_at, bits::specs::Word::word_at))]
 pub fn map_entry(map: &[u8], column: usize, row: usize) -> BorderMapEntry
     requires { (length map.now ≡ border_map_bytes) × (column < 32) × (row < 28) }
     ensures { result.0 ≡ entry_at map.now column row }
@@ -37,7 +37,7 @@ fn index(tiles: &[u8], entry: BorderMapEntry, x: usize, y: usize) -> usize
     ensures { (result ≡ index_of tiles.now entry.0 x y) × (result < 16) }
 {
     if draws(entry) {
-        let n = entry.tile() as usize;
+        let n = usize::from(entry.tile());
         let flip_x = entry.flip_x();
         let flip_y = entry.flip_y();
         return index_in(tile(tiles, n), flipped(flip_y, y), flipped(flip_x, x));
@@ -46,20 +46,16 @@ fn index(tiles: &[u8], entry: BorderMapEntry, x: usize, y: usize) -> usize
 }
 
 // Whether an entry names a tile and a palette that transfers load.
+#[tactic(auto, unfolding(crate::specs::Border::draws))]
 pub fn draws(entry: BorderMapEntry) -> bool
     ensures { result ≡ draws entry.0 }
 {
-    if entry.tile() > 255 {
-        return false;
-    }
     let p = entry.palette();
-    if p < 4 {
-        return false;
-    }
-    p <= 6
+    entry.tile() <= 255 && p >= 4 && p <= 6
 }
 
 // A row or a column of a cell, as a flip has it.
+#[tactic(auto, unfolding(crate::specs::Border::flipped))]
 pub fn flipped(flip: bool, k: usize) -> usize
     requires { k < 8 }
     ensures { (result ≡ flipped flip k) × (result < 8) }
@@ -68,13 +64,11 @@ pub fn flipped(flip: bool, k: usize) -> usize
 }
 
 // The part of the tiles that is tile n. It is empty if n is over 255 or the tiles don't have 8,192 bytes, and only then.
+#[tactic(auto, unfolding(crate::specs::Tile::tile_part))]
 pub fn tile(tiles: &[u8], n: usize) -> &[u8]
     ensures { result.now ≡ tile_part tiles.now n }
 {
-    if tiles.len() != parts::TILES_BYTES {
-        return &tiles[..0];
-    }
-    if n > 255 {
+    if tiles.len() != parts::TILES_BYTES || n > 255 {
         return &tiles[..0];
     }
     let at = n * 32;
@@ -107,7 +101,7 @@ fn in_palette(palettes: &[u8], entry: BorderMapEntry, i: usize) -> Rgb555
     requires value { draws entry.0 ≡ true }
     ensures { result.0 ≡ in_palette palettes.now entry.0 i }
 {
-    let p = (entry.palette() - 4) as usize;
+    let p = usize::from(entry.palette() - 4);
     let at = (p * 16 + i) * 2;
     Rgb555::from_bytes(palettes[at], palettes[at + 1])
 }
