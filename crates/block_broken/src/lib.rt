@@ -9,13 +9,15 @@ ghost use Rattle.layout.specs.Block.{byte};
 ghost use Rattle.layout.specs.Valid.{Fronted};
 ghost use Rattle.broken.specs.Broken as spec;
 ghost use Rattle.block_found.specs.Found.{found_told};
+ghost use Rattle.refusal.specs.Codes.{rule_number, code_or_0};
 
 use block_broken_v3::at_v3;
-use block_found::{Found, at_most, lower, set_in, unless, zero_at};
+use block_found::{at_most, lower, set_in, unless, zero_at};
 use block_receiver::v3;
 use block_valid::{lines_agree, mask_allows, v1, v2, v4, v5, v6};
+use refusal::{Refusal, Rule};
 
-fn at_v1(block: &[u8]) -> Found
+fn at_v1(block: &[u8]) -> Option<u16>
     requires { Fronted block.now }
     ensures { found_told result ≡ spec.lowest (spec.asks1 block.now) }
 {
@@ -28,7 +30,7 @@ fn at_v1(block: &[u8]) -> Found
     )
 }
 
-fn at_v2(block: &[u8]) -> Found
+fn at_v2(block: &[u8]) -> Option<u16>
     requires { Fronted block.now }
     ensures { found_told result ≡ spec.lowest (spec.asks2 block.now) }
 {
@@ -41,7 +43,7 @@ fn at_v2(block: &[u8]) -> Found
     lower(at_most(block, parts::P15, 1), both)
 }
 
-fn at_v4(block: &[u8]) -> Found
+fn at_v4(block: &[u8]) -> Option<u16>
     requires { Fronted block.now }
     ensures { found_told result ≡ spec.lowest (spec.asks4 block.now) }
 {
@@ -49,7 +51,7 @@ fn at_v4(block: &[u8]) -> Found
 }
 
 // The kind, by the countdown.
-fn kind(block: &[u8]) -> Found
+fn kind(block: &[u8]) -> Option<u16>
     requires { Fronted block.now }
     ensures { found_told result ≡ spec.byte_of (spec.asked kind_at (cond (eqb (byte countdown_at block.now) 0) (eqb (byte kind_at block.now) 0) (leb (byte kind_at block.now) 4))) }
 {
@@ -59,17 +61,17 @@ fn kind(block: &[u8]) -> Found
     at_most(block, parts::KIND, 4)
 }
 
-fn at_v5(block: &[u8]) -> Found
+fn at_v5(block: &[u8]) -> Option<u16>
     requires { Fronted block.now }
     ensures { found_told result ≡ spec.lowest (spec.asks5 block.now) }
 {
     if block[parts::PRESET_ON] != 0 {
-        return Found::Nothing;
+        return None;
     }
     set_in(block, parts::PRESET, parts::PALETTES)
 }
 
-fn at_v6(block: &[u8]) -> Found
+fn at_v6(block: &[u8]) -> Option<u16>
     requires { length block.now ≡ block_bytes }
     ensures { found_told result ≡ spec.lowest (spec.asks6 block.now) }
 {
@@ -84,51 +86,47 @@ fn at_v6(block: &[u8]) -> Found
     lower(mask, set_in(block, parts::FROZEN, parts::TILES))
 }
 
-// The first of V1 to V6 that is broken, as the number of a refusal with its offset; 0 if there is none. Each is tested as a valid block's are, and
-// its byte is looked for only where it fails.
-pub fn broken(block: &[u8]) -> u32
+// The first of V1 to V6 that is broken, with its byte. Each is tested as a valid block's are, and its byte is looked for only where it fails.
+pub fn broken(block: &[u8]) -> Result<(), Refusal>
     requires { length block.now ≡ block_bytes }
-    ensures { result ≡ spec.broken_number (spec.broken block.now) }
+    ensures { code_or_0 result ≡ spec.broken_number (spec.broken block.now) }
 {
-    let no = broken_front(block);
-    if no != 0 {
-        return no;
-    }
+    broken_front(block)?;
     if !v6(block) {
-        return numbered(26, at_v6(block));
+        return broken_at(Rule::V6, at_v6(block));
     }
-    0
+    Ok(())
 }
 
 // The same of V1 to V5, which ask of nothing past the preset: of a block, or of its front alone.
-pub fn broken_front(block: &[u8]) -> u32
+pub fn broken_front(block: &[u8]) -> Result<(), Refusal>
     requires { Fronted block.now }
-    ensures { result ≡ spec.broken_number (spec.first_of 1 (spec.front_rules block.now)) }
+    ensures { code_or_0 result ≡ spec.broken_number (spec.first_of 1 (spec.front_rules block.now)) }
 {
     if !v1(block) {
-        return numbered(21, at_v1(block));
+        return broken_at(Rule::V1, at_v1(block));
     }
     if !v2(block) {
-        return numbered(22, at_v2(block));
+        return broken_at(Rule::V2, at_v2(block));
     }
     if !v3(block) {
-        return numbered(23, at_v3(block));
+        return broken_at(Rule::V3, at_v3(block));
     }
     if !v4(block) {
-        return numbered(24, at_v4(block));
+        return broken_at(Rule::V4, at_v4(block));
     }
     if !v5(block) {
-        return numbered(25, at_v5(block));
+        return broken_at(Rule::V5, at_v5(block));
     }
-    0
+    Ok(())
 }
 
-// A refusal's number, with the offset above its low byte.
-fn numbered(number: u8, found: Found) -> u32
-    ensures { result ≡ spec.number_of number (found_told found) }
+// A rule that is broken at the byte that was found.
+fn broken_at(rule: Rule, found: Option<u16>) -> Result<(), Refusal>
+    ensures { code_or_0 result ≡ spec.number_of (rule_number rule) (found_told found) }
 {
     match found {
-        Found::Nothing => 0,
-        Found::At(i) => number as u32 + 256 * (i as u32),
+        Some(at) => Err(Refusal::Broken(rule, at)),
+        None => Ok(()),
     }
 }

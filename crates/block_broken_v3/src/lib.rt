@@ -10,11 +10,11 @@ ghost use Rattle.receiver.specs.declared.Stage.TheVariants.{Receiving};
 ghost use Rattle.broken.specs.Broken as spec;
 ghost use Rattle.block_found.specs.Found.{found_told};
 
-use block_found::{Found, at_most, bits_past, lower, set_in, unless, zero_at};
+use block_found::{at_most, bits_past, lower, set_in, unless, zero_at};
 use receiver::packet_count;
 
 // An idle receiver.
-fn resting(block: &[u8]) -> Found
+fn resting(block: &[u8]) -> Option<u16>
     requires { Fronted block.now }
     ensures { found_told result ≡ spec.lowest (spec.resting block.now) }
 {
@@ -25,7 +25,7 @@ fn resting(block: &[u8]) -> Found
 }
 
 // The packet that is coming in.
-fn coming(block: &[u8]) -> Found
+fn coming(block: &[u8]) -> Option<u16>
     requires { Fronted block.now }
     ensures { found_told result ≡ spec.lowest (spec.coming block.now) }
 {
@@ -36,7 +36,7 @@ fn coming(block: &[u8]) -> Found
 }
 
 // Nothing is held before the first packet.
-fn first(block: &[u8]) -> Found
+fn first(block: &[u8]) -> Option<u16>
     requires { Fronted block.now }
     ensures { found_told result ≡ spec.lowest (spec.first block.now) }
 {
@@ -47,7 +47,7 @@ fn first(block: &[u8]) -> Found
 }
 
 // No bit is in between two packets.
-fn between(block: &[u8]) -> Found
+fn between(block: &[u8]) -> Option<u16>
     requires { Fronted block.now }
     ensures { found_told result ≡ spec.lowest (spec.between block.now) }
 {
@@ -58,7 +58,7 @@ fn between(block: &[u8]) -> Found
 }
 
 // Some packets are in and some are due.
-fn later(block: &[u8]) -> Found
+fn later(block: &[u8]) -> Option<u16>
     requires { Fronted block.now }
     ensures { found_told result ≡ spec.lowest (spec.later block.now) }
 {
@@ -75,12 +75,12 @@ fn later(block: &[u8]) -> Found
 }
 
 // The store behind the packets that are in. Behind seven there is none.
-fn past(block: &[u8], received: u8) -> Found
+fn past(block: &[u8], received: u8) -> Option<u16>
     requires { Fronted block.now }
     ensures { found_told result ≡ spec.lowest (spec.zero_from (store_at + 16 * received) (drop (16 * received) (part store_at store_bytes block.now))) }
 {
     if received > 7 {
-        return Found::Nothing;
+        return None;
     }
     set_in(
         block,
@@ -89,7 +89,7 @@ fn past(block: &[u8], received: u8) -> Found
     )
 }
 
-fn receiving(block: &[u8]) -> Found
+fn receiving(block: &[u8]) -> Option<u16>
     requires { Fronted block.now }
     ensures { found_told result ≡ spec.lowest (spec.asks_of Receiving block.now) }
 {
@@ -100,19 +100,14 @@ fn receiving(block: &[u8]) -> Found
 }
 
 // By the receiver's stage. One that there isn't is told, and nothing else.
-pub fn at_v3(block: &[u8]) -> Found
+pub fn at_v3(block: &[u8]) -> Option<u16>
     requires { Fronted block.now }
     ensures { found_told result ≡ spec.lowest (spec.asks3 block.now) }
 {
-    let stage = block[parts::STAGE];
-    if stage == 0 {
-        return resting(block);
+    match block[parts::STAGE] {
+        0 => resting(block),
+        1 => receiving(block),
+        2 => lower(between(block), later(block)),
+        _ => Some(parts::STAGE as u16),
     }
-    if stage == 1 {
-        return receiving(block);
-    }
-    if stage == 2 {
-        return lower(between(block), later(block));
-    }
-    Found::At(parts::STAGE as u16)
 }

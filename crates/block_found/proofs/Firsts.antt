@@ -1,8 +1,8 @@
 -- What is asked of bytes in a row is told by the first that is not so: the others stand behind it.
-use Prim.Native.Nat.{ℕ, zero, suc, ◌+◌, ◌-◌, ◌/◌, ◌^◌, ◌≤◌, ◌<◌, min}
+use Prim.Native.Nat.{ℕ, suc, ◌+◌, ◌-◌, ◌/◌, ◌^◌, ◌≤◌, ◌<◌}
 use native.Mathlib.Nat.{min-eq_left}
 use native.Mathlib.Omega.{arith}
-use mathlib.Core.Path.{◌≡◌, refl, sym, ap, ◌∙◌, subst}
+use mathlib.Core.Path.{◌≡◌, refl, sym, ap, ◌∙◌}
 use mathlib.Core.Bool.{Bool, true, false, cond}
 use mathlib.Core.List.{List, [], ◌∷◌, ◌++◌}
 use mathlib.Core.Option.{Option, none, some}
@@ -15,7 +15,6 @@ use Rattle.bits.proofs.Overs.{length_part}
 use Rattle.bits.proofs.Tests.{same-ltb}
 use Rattle.broken.specs.Broken.{Asked, asked, zero_from, clear_from, byte_of, lower, lowest}
 use Rattle.block_found.specs.Found.{first_set}
-use Rattle.block_found.proofs.Sets.{set-short}
 
 -- nothing of a list has a lower byte than n
 unfoldable From : ℕ → List Asked → Type 0

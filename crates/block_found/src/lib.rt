@@ -13,49 +13,35 @@ ghost use Rattle.block_found.specs.Found.{found_told, first_set};
 
 use bits::all_zero;
 
-// The offset of a byte, or that nothing is broken.
-#[derive(Clone, Copy)]
-pub enum Found {
-    Nothing,
-    At(u16),
-}
-
-pub fn unless(holds: bool, at: u16) -> Found
+// What is found is the offset of a byte, or none where nothing is broken.
+pub fn unless(holds: bool, at: u16) -> Option<u16>
     ensures { found_told result ≡ byte_of (asked at holds) }
 {
-    if holds { Found::Nothing } else { Found::At(at) }
+    if holds { None } else { Some(at) }
 }
 
 // A byte of the header that is to be at most so much, and one that is to be zero.
-pub fn at_most(block: &[u8], at: usize, most: u8) -> Found
+pub fn at_most(block: &[u8], at: usize, most: u8) -> Option<u16>
     requires { Fronted block.now × (at < header_bytes) }
     ensures { found_told result ≡ byte_of (asked at (leb (byte at block.now) most)) }
 {
     unless(block[at] <= most, at as u16)
 }
 
-pub fn zero_at(block: &[u8], at: usize) -> Found
+pub fn zero_at(block: &[u8], at: usize) -> Option<u16>
     requires { Fronted block.now × (at < header_bytes) }
     ensures { found_told result ≡ byte_of (zero_at at block.now) }
 {
     unless(block[at] == 0, at as u16)
 }
 
-pub fn lower(a: Found, b: Found) -> Found
+pub fn lower(a: Option<u16>, b: Option<u16>) -> Option<u16>
     ensures { found_told result ≡ lower (found_told a) (found_told b) }
 {
-    match a {
-        Found::Nothing => b,
-        Found::At(i) => lower_than(i, b),
-    }
-}
-
-fn lower_than(i: u16, b: Found) -> Found
-    ensures { found_told result ≡ lower (found_told (Found.At i)) (found_told b) }
-{
-    match b {
-        Found::Nothing => Found::At(i),
-        Found::At(j) => Found::At(if i < j { i } else { j }),
+    match (a, b) {
+        (Some(i), Some(j)) => Some(i.min(j)),
+        (Some(i), None) => Some(i),
+        (None, _) => b,
     }
 }
 
@@ -72,6 +58,7 @@ pub fn first_set(s: &[u8]) -> usize
 }
 
 // Goes on from a place before which there is nothing but zeros, as long as the next `size` bytes are zero.
+// Stays: its answer is the place, which a loop over `chunks_exact(size)` would count by hand as well.
 fn skip(s: &[u8], from: usize, size: usize) -> usize
     requires { (from ≤ first_set s.now) × (1 ≤ size) }
     ensures { (result ≤ first_set s.now) × (first_set s.now < result + size) }
@@ -87,32 +74,31 @@ fn skip(s: &[u8], from: usize, size: usize) -> usize
 }
 
 // The first byte of a part that isn't zero.
-pub fn set_in(block: &[u8], from: usize, to: usize) -> Found
+pub fn set_in(block: &[u8], from: usize, to: usize) -> Option<u16>
     requires { (from ≤ to) × ((to ≤ length block.now) × (length block.now ≤ block_bytes)) }
     ensures { found_told result ≡ lowest (zero_from from (part from (to - from) block.now)) }
 {
     let n = first_set(&block[from..to]);
     if n < to - from {
-        return Found::At((from + n) as u16);
+        return Some((from + n) as u16);
     }
-    Found::Nothing
+    None
 }
 
 // The first byte of the current packet with a bit at the bit index or past it.
-pub fn bits_past(block: &[u8], index: u8) -> Found
+pub fn bits_past(block: &[u8], index: u8) -> Option<u16>
     requires { Fronted block.now }
     ensures { found_told result ≡ lowest (clear_from index packet_at (part packet_at packet_bytes block.now)) }
 {
+    let packet = &block[parts::PACKET..parts::STORE];
     let mut left = index;
-    let mut i: usize = 0;
-    while i < parts::PACKET_BYTES {
-        if shifted(block[parts::PACKET + i], left) != 0 {
-            return Found::At((parts::PACKET + i) as u16);
+    for (i, byte) in packet.iter().enumerate() {
+        if shifted(*byte, left) != 0 {
+            return Some((parts::PACKET + i) as u16);
         }
-        left = eight_less(left);
-        i += 1;
+        left = left.saturating_sub(8);
     }
-    Found::Nothing
+    None
 }
 
 // What is left of a byte behind its first n bits.
@@ -120,10 +106,4 @@ fn shifted(x: u8, n: u8) -> u8
     ensures { result ≡ x / 2 ^ n }
 {
     if n < 8 { x >> n } else { 0 }
-}
-
-fn eight_less(n: u8) -> u8
-    ensures { result ≡ n - 8 }
-{
-    if n < 8 { 0 } else { n - 8 }
 }

@@ -4,7 +4,7 @@ use native.Mathlib.Omega.{arith}
 use mathlib.Core.Path.{◌≡◌, sym, ap, ◌∙◌, refl}
 use mathlib.Core.Bool.{cond}
 use lib.Dec.{eqb}
-use Rattle.std.specs.Prelude.{Ok, Err}
+use Rattle.std.specs.Prelude.{Result, Ok, Err, IsErrAnd}
 use Rattle.bits.specs.Determined.{Once}
 use Rattle.refusal.specs.declared.Rule.{Rule}
 use Rattle.refusal.specs.declared.Rule.TheVariants.{V1, V2, V3, V4, V5, V6}
@@ -82,3 +82,8 @@ one_or_0 (Ok u) (Ok v) e = refl
 one_or_0 (Ok u) (Err s) e = absurd (code-some s (sym e))
 one_or_0 (Err r) (Ok v) e = absurd (code-some r e)
 one_or_0 (Err r) (Err s) e = ap Err (refusal-of r s e)
+
+-- what leaves a call by a `?` is the refusal that came in
+pub passed_on : {A : Type 0} (r : Result A Refusal) (e : Refusal) → IsErrAnd r (λ y. y ≡ e) → r ≡ Err e
+passed_on (Ok a) e h = absurd h
+passed_on (Err y) e h = ap Err h

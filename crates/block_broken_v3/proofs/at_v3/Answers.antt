@@ -11,18 +11,18 @@ use Rattle.broken.proofs.Lowest.{lowest-append}
 use Rattle.block_found.specs.Found.{found_told}
 use Rattle.block_broken_v3.proofs.at_v3.Goals as goal
 
-pub returns-then-stage-eq0 : goal.returns-then-stage-eq0
+pub returns-in-0 : goal.returns-in-0
 unfolding asks3 asks_of lowest lower byte_of stage_of
-returns-then-stage-eq0 c = rw (c.if-stage-eq0.true, part_bytes c.args.block.now 16 16 (λ i. omega (arith, c.shared_slice_known-1.given i)) (omega arith)) c.resting.ensures
+returns-in-0 c = rw (c.in-0.is, part_bytes c.args.block.now 16 16 (λ i. omega (arith, c.type_inv.block i)) (omega arith)) c.resting.ensures
 
-pub returns-then-stage-eq1 : goal.returns-then-stage-eq1
+pub returns-in-1 : goal.returns-in-1
 unfolding asks3 asks_of lowest lower byte_of stage_of
-returns-then-stage-eq1 c = rw (c.if-stage-eq1.true, part_bytes c.args.block.now 16 16 (λ i. omega (arith, c.shared_slice_known-1.given i)) (omega arith)) c.receiving.ensures
+returns-in-1 c = rw (c.in-1.is, part_bytes c.args.block.now 16 16 (λ i. omega (arith, c.type_inv.block i)) (omega arith)) c.receiving.ensures
 
-pub returns-then-stage-eq2 : goal.returns-then-stage-eq2
+pub returns-in-2 : goal.returns-in-2
 unfolding asks3 asks_of lowest lower byte_of stage_of
-returns-then-stage-eq2 c = rw (c.if-stage-eq2.true, part_bytes c.args.block.now 16 16 (λ i. omega (arith, c.shared_slice_known-1.given i)) (omega arith)) (c.lower.ensures ∙ ap₂ lower c.between.ensures c.later.ensures ∙ sym (lowest-append (between c.args.block.now) (later c.args.block.now)))
+returns-in-2 c = rw (c.in-2.is, part_bytes c.args.block.now 16 16 (λ i. omega (arith, c.type_inv.block i)) (omega arith)) (c.lower.ensures ∙ ap₂ lower c.between.ensures c.later.ensures ∙ sym (lowest-append (between c.args.block.now) (later c.args.block.now)))
 
-pub returns : goal.returns
+pub returns-in_default : goal.returns-in_default
 unfolding asks3 lowest lower byte_of found_told
-returns c = rw (lt-leb (get_or c.args.block.now stage_at 0) 2 (omega arith))
+returns-in_default c = rw (lt-leb (get_or c.args.block.now stage_at 0) 2 (omega arith))
