@@ -20,6 +20,22 @@ const ROW: usize = 1025;
 
 const PLATE: usize = 224 * ROW;
 
+// Which program's work a log is read for. Its number is 1 for `plate`.
+#[derive(Clone, Copy, Debug, PartialEq, Eq)]
+enum Prints {
+    Replay,
+    Plate,
+}
+
+impl From<u8> for Prints {
+    fn from(number: u8) -> Prints {
+        match number {
+            1 => Prints::Plate,
+            _ => Prints::Replay,
+        }
+    }
+}
+
 #[unsafe(no_mangle)]
 pub extern "C" fn jobs_show(block: &mut [u8], screen: &[u8])
     requires { Valid block.old × (length screen.now ≡ capture_bytes) }
@@ -33,7 +49,7 @@ pub extern "C" fn jobs_play(block: &mut [u8], writes: &[u8], command: &mut [u8])
     requires { Valid block.old × (store_bytes ≤ length command.old) }
 {
     let p = block_writes::play(block, writes, command);
-    p.at as u64 | (p.packets as u64) << 56
+    p.at as u64 | u64::from(p.packets) << 56
 }
 
 // What `replay` prints of a log, or what `plate` does where that is 1 and no line is refused; its rows go by way of the lent words. Answers
@@ -58,32 +74,22 @@ pub extern "C" fn jobs_print(
     ) {
         return 0;
     }
-    if words.len() != 256 {
+    if words.len() != 256 || text.len() < PLATE {
         return 0;
     }
-    if text.len() < PLATE {
-        return 0;
-    }
-    let n = read_log(input, block, line, bytes, command, text, plate != 1);
-    finish(plate, block, words, text, n)
+    let prints = Prints::from(plate);
+    let n = read_log(input, block, line, bytes, command, text, prints);
+    finish(prints, block, words, text, n)
 }
 
 fn are_sized(input: usize, block: usize, line: usize, bytes: usize, command: usize) -> bool
     ensures { (result ≡ true) → ((input < 4294967296) × ((block ≡ block_bytes) × ((line ≡ line_digits) × ((bytes ≡ capture_bytes) × (command ≡ store_bytes))))) }
 {
-    if input > 0xFFFFFFFF {
-        return false;
-    }
-    if block != parts::BLOCK {
-        return false;
-    }
-    if line != log_line::LINE_DIGITS {
-        return false;
-    }
-    if bytes != parts::CAPTURE_BYTES {
-        return false;
-    }
-    command == parts::STORE_BYTES
+    input <= 0xFFFFFFFF
+        && block == parts::BLOCK
+        && line == log_line::LINE_DIGITS
+        && bytes == parts::CAPTURE_BYTES
+        && command == parts::STORE_BYTES
 }
 
 // All of a log, a chunk at a time, from a fresh unit on. The text of each fill stands behind the one before, or in its place where none
@@ -95,7 +101,7 @@ fn read_log(
     bytes: &mut [u8],
     command: &mut [u8],
     text: &mut [u8],
-    keep: bool,
+    prints: Prints,
 ) -> usize
     requires { LentSizes (desk block.old line.old bytes.old command.old) × (length input.now < 4294967296) }
     ensures { Valid block.new × (result ≤ length text.old) }
@@ -104,7 +110,7 @@ fn read_log(
     let mut reading = log_reading::begin();
     let mut at: usize = 0;
     let mut n: usize = 0;
-    while goes_on(reading, input.len(), at, text.len() - n) {
+    'chunks: while goes_on(reading, input.len(), at, text.len() - n) {
         let end = at + chunk_size(input.len() - at);
         let f = log_chunks::fill(
             reading,
@@ -116,10 +122,9 @@ fn read_log(
             0,
             &mut text[n..n + OUT_BYTES],
         );
-        let next = f.reading;
-        reading = next;
+        reading = f.reading;
         at += f.at;
-        n += kept(f.size, keep);
+        n += kept(f.size, prints);
     }
     n
 }
@@ -128,16 +133,16 @@ fn read_log(
 fn goes_on(reading: Reading, size: usize, at: usize, room: usize) -> bool
     ensures { (result ≡ true) → ((out_bytes ≤ room) × (0 < left reading size at)) }
 {
-    if room < OUT_BYTES {
-        return false;
-    }
-    log_reading::is_left(reading, size, at)
+    room >= OUT_BYTES && log_reading::is_left(reading, size, at)
 }
 
-fn kept(size: usize, keep: bool) -> usize
+fn kept(size: usize, prints: Prints) -> usize
     ensures { result ≤ size }
 {
-    if keep { size } else { 0 }
+    match prints {
+        Prints::Replay => size,
+        Prints::Plate => 0,
+    }
 }
 
 // What of the rest is taken at once: some, if there is any.
@@ -145,26 +150,22 @@ fn chunk_size(rest: usize) -> usize
     requires { rest < 4294967296 }
     ensures { (result ≤ rest) × ((result ≤ chunk_bytes) × (rest ≤ result * 4294967296)) }
 {
-    if rest < CHUNK_BYTES {
-        rest
-    } else {
-        CHUNK_BYTES
-    }
+    rest.min(CHUNK_BYTES)
 }
 
 // Of the plate its rows, else the closing line behind the n bytes of text that there are.
-fn finish(plate: u8, block: &[u8], words: &mut [u16], text: &mut [u8], n: usize) -> usize
+fn finish(prints: Prints, block: &[u8], words: &mut [u16], text: &mut [u8], n: usize) -> usize
     requires valid { Valid block.now × (n ≤ length text.old) }
     requires words_len { (length words.old ≡ 256) × (229600 ≤ length text.old) }
 {
-    if plate == 1 {
-        picture(block, words, text);
-        return PLATE;
+    match prints {
+        Prints::Plate => {
+            picture(block, words, text);
+            PLATE
+        }
+        Prints::Replay if text.len() - n < OUT_BYTES => 0,
+        Prints::Replay => n + log_chunks::head_line(block, &mut text[n..n + OUT_BYTES]),
     }
-    if text.len() - n < OUT_BYTES {
-        return 0;
-    }
-    n + log_chunks::head_line(block, &mut text[n..n + OUT_BYTES])
 }
 
 fn picture(block: &[u8], words: &mut [u16], text: &mut [u8])
@@ -188,8 +189,7 @@ fn rows(
     requires valid { Valid block.now × ((length words.old ≡ 256) × (229600 ≤ length text.old)) }
     requires tables_of { TablesOf (parts_of (load block.now)) spreads.now border.now game.now }
 {
-    let mut y: usize = 0;
-    while y < 224 {
+    for y in 0..224 {
         let at = ROW * y;
         log_chunks::row_line(
             block,
@@ -200,6 +200,5 @@ fn rows(
             words,
             &mut text[at..at + ROW],
         );
-        y += 1;
     }
 }
