@@ -1,6 +1,5 @@
 -- The line of RULES 8.5, the edges of the form (RULES 8.1 and 8.2), and steps of `split`, each computed.
 use mathlib.Core.Path.{◌≡◌, refl}
-use mathlib.Core.Bool.{false}
 use mathlib.Core.List.{List, [], ◌∷◌, ◌++◌}
 use Prim.Native.Nat.{ℕ, ◌-◌}
 use lib.ListN.{take, drop}
@@ -10,6 +9,7 @@ use Rattle.log_line.specs.Line.{line_digits, writes, refused, by_kind, by_bytes,
 use Rattle.log_line.specs.Lines.{last_line, lines_from, lines_of}
 use Rattle.log_line.specs.Split.{nothing, too_long, up_to_lf, lf_at, took_held, took_line, taken}
 use Rattle.log_line.specs.declared.lines.Held.{Held}
+use Rattle.log_line.specs.declared.lines.Held.TheVariants as H
 
 -- `01003020`: the writes 00 30 20
 three-writes : meaning_of (48 ∷ 49 ∷ 48 ∷ 48 ∷ 51 ∷ 48 ∷ 50 ∷ 48 ∷ []) ≡ writes (0x00 ∷ 0x30 ∷ 0x20 ∷ [])
@@ -59,7 +59,7 @@ chunk = 48 ∷ 10 ∷ 49 ∷ 50 ∷ []
 
 -- so many bytes are held
 abbrev keeping : ℕ → Held
-keeping n = record { size = n; long = false }
+keeping n = H.Bytes n
 
 -- from its start: the `0`, and not the LF, at which it stops
 up-to-lf : (line : List ℕ) → (taken nothing chunk 0 ≡ record { held = keeping 1; at = 1 }) × (took_line nothing (up_to_lf (drop 0 chunk)) line ≡ 48 ∷ drop 1 line)

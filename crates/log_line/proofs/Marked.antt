@@ -1,6 +1,6 @@
 -- A held line grows by what comes up to the next LF, however the input is cut (`marked_more`, `marked-line`, `chunks_give-lines`); and
 -- marked lines mean what the lines mean (`marked-meanings`).
-use Prim.Native.Nat.{ℕ, suc, ◌+◌, ◌≤◌, ◌<◌}
+use Prim.Native.Nat.{ℕ, suc, ◌≤◌, ◌<◌}
 use mathlib.Core.Bool.{Bool, true, false, cond}
 use mathlib.Core.Path.{◌≡◌, refl, ap, sym, ◌∙◌}
 use mathlib.Core.Option.{Option, none, some}

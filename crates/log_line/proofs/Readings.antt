@@ -7,7 +7,7 @@ use mathlib.Core.List.{List, [], ◌∷◌, ◌++◌}
 use lib.ListN.{length, drop}
 use Rattle.log_line.specs.Line.{line_digits}
 use Rattle.log_line.specs.Lines.{marked_from}
-use Rattle.log_line.specs.Split.{held_as, up_to_lf, took_line, taken}
+use Rattle.log_line.specs.Split.{held_as, held_size, up_to_lf, took_line, taken}
 use Rattle.log_line.specs.declared.lines.Held.{Held}
 use Rattle.log_line.proofs.Splitting.{lines-lf, lines_end, kept-held, took-grown}
 
@@ -15,7 +15,7 @@ use Rattle.log_line.proofs.Splitting.{lines-lf, lines_end, kept-held, took-grown
 abbrev pub held_then : Held → List ℕ → List ℕ → ℕ → Option (List ℕ)
 held_then h line chunk at = held_as (taken h chunk at).held (took_line h (up_to_lf (drop at chunk)) line)
 
-module _ (h : Held) (line chunk : List ℕ) (at : ℕ) (fits : h.size ≤ line_digits) (full : length line ≡ line_digits) (inside : at ≤ length chunk) (rest : List ℕ) where
+module _ (h : Held) (line chunk : List ℕ) (at : ℕ) (fits : held_size h ≤ line_digits) (full : length line ≡ line_digits) (inside : at ≤ length chunk) (rest : List ℕ) where
   -- it stopped at an LF: the line has ended, and the input goes on behind the LF with nothing held
   pub split-ends : (taken h chunk at).at < length chunk
       → marked_from (held_as h line) (drop at chunk ++ rest) ≡ held_then h line chunk at ∷ marked_from (some []) (drop ((taken h chunk at).at + 1) chunk ++ rest)

@@ -2,7 +2,7 @@
 use Prim.Native.Nat.{ℕ, zero, suc, ◌+◌, ◌-◌, ◌≤◌, ◌<◌}
 use mathlib.Core.Bool.{Bool, true, false, cond}
 use mathlib.Core.Path.{◌≡◌, refl, ap, sym, ◌∙◌}
-use mathlib.Core.Option.{Option, none, some}
+use mathlib.Core.Option.{Option, some}
 use mathlib.Core.List.{List, [], ◌∷◌, ◌++◌, append_assoc}
 use native.Mathlib.Nat.{add-zero}
 use native.Mathlib.Numerals.{add-one}
@@ -10,14 +10,17 @@ use native.Mathlib.Omega.{arith}
 use borrow.Author.Tests.{le-leb, lt-leb, leb-true, leb-false, eqb-true}
 use lib.Dec.{leb, eqb}
 use lib.ListN.{length, take, drop, get_or, length-append, length-take, length-drop, take-append-drop, drop_of_length-le}
-use lib.Seq.{take-length, take_all, take_at, drop-cons, drop-drop, length-take-le}
+use lib.Seq.{take_all, take_at, drop-cons, drop-drop, length-take-le}
+use mir.Val.{bool_byte}
+use Rattle.std.proofs.lemmas.List.{get_or-take, get_or-drop}
 use Rattle.bits.specs.Over.{over}
 use Rattle.bits.proofs.Overs.{length_over}
 use Rattle.log_line.specs.Find.{index_of, index_after}
 use Rattle.log_line.specs.Line.{line_digits, refused, meaning_of}
 use Rattle.log_line.specs.Lines.{grown, marked_from, meaning_marked}
-use Rattle.log_line.specs.Split.{held_as, too_long, up_to_lf, lf_at, took_held, took_line, taken}
+use Rattle.log_line.specs.Split.{held_as, held_size, too_long, stride, up_to_lf, lf_at, took_held, took_line, taken}
 use Rattle.log_line.specs.declared.lines.Held.{Held}
+use Rattle.log_line.specs.declared.lines.Held.TheVariants as H
 use Rattle.log_line.specs.declared.lines.Taken.{Taken}
 use Rattle.log_line.proofs.Marked.{Kept, NoLf, mark-short, mark-long, marked_more, marked-line}
 
@@ -96,77 +99,70 @@ module _ (chunk : List ℕ) (at : ℕ) (h : at ≤ length chunk) where
 
 -- ---- the buffer
 
-pub took-fits : (h : Held) (q : List ℕ) → (took_held h q).size ≤ line_digits
+pub took-fits : (h : Held) (q : List ℕ) → held_size (took_held h q) ≤ line_digits
 unfolding took_held
-took-fits h q = go h.long (leb (h.size + length q) line_digits) refl where
-  go : (t u : Bool) → leb (h.size + length q) line_digits ≡ u
-      → (cond t too_long (cond u (record { size = h.size + length q; long = false }) too_long)).size ≤ line_digits
-  go true u e = omega arith
-  go false true e = leb-true (h.size + length q) line_digits e
-  go false false e = omega arith
+took-fits H.Long q = omega arith
+took-fits (H.Bytes n) q = go (leb (n + length q) line_digits) refl where
+  go : (u : Bool) → leb (n + length q) line_digits ≡ u → held_size (cond u (H.Bytes (n + length q)) too_long) ≤ line_digits
+  go true e = leb-true (n + length q) line_digits e
+  go false e = omega arith
 
-module _ (h : Held) (line : List ℕ) (fits : h.size ≤ line_digits) (full : length line ≡ line_digits) where
-  pub kept-held : Kept (held_as h line)
-  unfolding held_as Kept
-  kept-held = go h.long where
-    go : (t : Bool) → Kept (cond t none (some (take h.size line)))
-    go true = tt
-    go false = simp length-take (omega arith)
+pub kept-held : (h : Held) (line : List ℕ) → held_size h ≤ line_digits → length line ≡ line_digits → Kept (held_as h line)
+unfolding held_as Kept
+kept-held H.Long line fits full = tt
+kept-held (H.Bytes n) line fits full = simp length-take (omega arith)
 
-  pub length-took : (q : List ℕ) → length (took_line h q line) ≡ line_digits
-  unfolding took_line
-  length-took q = go h.long (leb (h.size + length q) line_digits) refl where
-    go : (t u : Bool) → leb (h.size + length q) line_digits ≡ u → length (cond t line (cond u (over h.size (length q) q line) line)) ≡ line_digits
-    go true u e = full
-    go false true e = let l : h.size + length q ≤ line_digits = leb-true (h.size + length q) line_digits e in length_over h.size (length q) q line (omega arith) refl ∙ full
-    go false false e = full
+pub length-took : (h : Held) (line : List ℕ) → held_size h ≤ line_digits → length line ≡ line_digits → (q : List ℕ) → length (took_line h q line) ≡ line_digits
+unfolding took_line
+length-took H.Long line fits full q = full
+length-took (H.Bytes n) line fits full q = go (leb (n + length q) line_digits) refl where
+  go : (u : Bool) → leb (n + length q) line_digits ≡ u → length (cond u (over n (length q) q line) line) ≡ line_digits
+  go true e = let l : n + length q ≤ line_digits = leb-true (n + length q) line_digits e in length_over n (length q) q line (omega arith) refl ∙ full
+  go false e = full
 
-  -- the buffer holds the grown line
-  pub took-grown : (q : List ℕ) → held_as (took_held h q) (took_line h q line) ≡ grown (held_as h line) q
-  unfolding took_held took_line held_as grown
-  took-grown q = go h.long (leb (h.size + length q) line_digits) refl where
-    both : List ℕ
-    both = take h.size line ++ q
+-- the buffer holds the grown line
+pub took-grown : (h : Held) (line : List ℕ) → held_size h ≤ line_digits → length line ≡ line_digits → (q : List ℕ)
+    → held_as (took_held h q) (took_line h q line) ≡ grown (held_as h line) q
+unfolding took_held took_line held_as grown
+took-grown H.Long line fits full q = refl
+took-grown (H.Bytes n) line fits full q = go (leb (n + length q) line_digits) refl where
+  both : List ℕ
+  both = take n line ++ q
 
-    count : length both ≡ h.size + length q
-    count = simp (length-append, length-take) (omega arith)
+  count : length both ≡ n + length q
+  count = simp (length-append, length-take) (omega arith)
 
-    go : (t u : Bool) → leb (h.size + length q) line_digits ≡ u
-        → held_as (cond t too_long (cond u (record { size = h.size + length q; long = false }) too_long)) (cond t line (cond u (over h.size (length q) q line) line))
-        ≡ grown (cond t none (some (take h.size line))) q
-    go true u e = refl
-    go false true e =
-        let z : List ℕ = drop (length q) (drop h.size line) in
-        let l : h.size + length q ≤ line_digits = leb-true (h.size + length q) line_digits e in
-        ap some (ap (take (h.size + length q)) (sym (append_assoc (take h.size line) q z)) ∙ take_at both z (h.size + length q) count)
-        ∙ sym (mark-short both (omega (arith, count)))
-    go false false e = sym (mark-long both (let l : line_digits < h.size + length q = leb-false (h.size + length q) line_digits e in omega (arith, count)))
+  go : (u : Bool) → leb (n + length q) line_digits ≡ u
+      → held_as (cond u (H.Bytes (n + length q)) too_long) (cond u (over n (length q) q line) line) ≡ grown (some (take n line)) q
+  go true e =
+      let z : List ℕ = drop (length q) (drop n line) in
+      let l : n + length q ≤ line_digits = leb-true (n + length q) line_digits e in
+      ap some (ap (take (n + length q)) (sym (append_assoc (take n line) q z)) ∙ take_at both z (n + length q) count)
+      ∙ sym (mark-short both (omega (arith, count)))
+  go false e = sym (mark-long both (let l : line_digits < n + length q = leb-false (n + length q) line_digits e in omega (arith, count)))
 
 -- what the held line means, and when it is empty
-pub held-means : (h : Held) (line : List ℕ) → h.long ≡ false → meaning_marked (held_as h line) ≡ meaning_of (take h.size line)
+pub held-means : (n : ℕ) (line : List ℕ) → meaning_marked (held_as (H.Bytes n) line) ≡ meaning_of (take n line)
 unfolding held_as meaning_marked
-held-means h line e = rw e
+held-means n line = refl
 
-pub held-long : (h : Held) (line : List ℕ) → h.long ≡ true → meaning_marked (held_as h line) ≡ refused
+pub held-long : (line : List ℕ) → meaning_marked (held_as H.Long line) ≡ refused
 unfolding held_as meaning_marked
-held-long h line e = rw e
+held-long line = refl
 
-pub held-not-empty : (h : Held) (line : List ℕ) → length line ≡ line_digits → 0 < h.size → held_as h line ≡ some [] → ⊥
+pub held-not-empty : (n : ℕ) (line : List ℕ) → length line ≡ line_digits → 0 < n → held_as (H.Bytes n) line ≡ some [] → ⊥
 unfolding held_as
-held-not-empty h line full n e = go h.long h.size line n full e where
-  go : (t : Bool) (k : ℕ) (l : List ℕ) → 0 < k → length l ≡ line_digits → cond t none (some (take k l)) ≡ some [] → ⊥
-  go true k l n f e = let z : ◌≡◌ {A = ℕ} 0 1 = cc in omega arith
-  go false zero l n f e = omega arith
-  go false (suc k) [] n f e = omega arith
-  go false (suc k) (x ∷ l) n f e = let z : ◌≡◌ {A = ℕ} 0 1 = cc in omega arith
+held-not-empty zero line f n e = omega arith
+held-not-empty (suc k) [] f n e = omega arith
+held-not-empty (suc k) (x ∷ l) f n e = let z : ◌≡◌ {A = ℕ} 0 1 = cc in omega arith
 
-pub long-not-empty : (h : Held) (line : List ℕ) → h.long ≡ true → held_as h line ≡ some [] → ⊥
+pub long-not-empty : (line : List ℕ) → held_as H.Long line ≡ some [] → ⊥
 unfolding held_as
-long-not-empty h line t e = let n : none ≡ some [] = rw t at e in let z : ◌≡◌ {A = ℕ} 0 1 = cc in omega arith
+long-not-empty line n = let z : ◌≡◌ {A = ℕ} 0 1 = cc in omega arith
 
-pub held-nothing : (h : Held) (line : List ℕ) → h.long ≡ false → h.size ≡ 0 → held_as h line ≡ some []
+pub held-nothing : (line : List ℕ) → held_as (H.Bytes 0) line ≡ some []
 unfolding held_as
-held-nothing h line t n = rw (t, n)
+held-nothing line = refl
 
 -- ---- the code's step: e is where the next LF stands, or the chunk's end
 
@@ -197,34 +193,44 @@ pub lf_end : (chunk : List ℕ) (k : ℕ) → length chunk ≤ k → lf_at chunk
 unfolding lf_at index_of
 lf_end chunk k h = ap (λ (l : List ℕ). k + index_of 10 l) (drop_of_length-le chunk h) ∙ add-zero k
 
-pub lf_turn : (chunk : List ℕ) (at j n x : ℕ) → at + j < length chunk → (x ≡ 0 → eqb (get_or chunk (at + j) 0) 10 ≡ false)
-    → (n ≡ 0 → lf_at chunk at ≡ lf_at chunk (at + j)) → n + x ≡ 0 → lf_at chunk at ≡ lf_at chunk (at + (j + 1))
-lf_turn chunk at j n x h f g e =
-    let s : at + j + 1 ≡ at + (j + 1) = omega arith in
-    g (omega (arith, e)) ∙ lf_past chunk (at + j) h (f (omega (arith, e))) ∙ ap (lf_at chunk) s
+-- a byte of a stride is counted
+pub lf_turn : (chunk : List ℕ) (at j n x : ℕ) → at + stride ≤ length chunk → j < stride → n ≤ j
+    → x ≡ bool_byte (eqb (get_or (take (at + stride - at) (drop at chunk)) j 0) 10) → (n ≡ 0 → lf_at chunk at ≡ lf_at chunk (at + j))
+    → (n + x ≤ j + 1) × (n + x ≡ 0 → lf_at chunk at ≡ lf_at chunk (at + (j + 1)))
+lf_turn chunk at j n x h l m e g = go (eqb (get_or chunk (at + j) 0) 10) refl (e ∙ ap (λ (b : ℕ). bool_byte (eqb b 10)) here) where
+  here : get_or (take (at + stride - at) (drop at chunk)) j 0 ≡ get_or chunk (at + j) 0
+  here = get_or-take (at + stride - at) (drop at chunk) j 0 (omega arith) ∙ get_or-drop at chunk j 0
 
-module _ (h : Held) (chunk line : List ℕ) (at e : ℕ) (found : e ≡ lf_at chunk at) where
+  go : (t : Bool) → eqb (get_or chunk (at + j) 0) 10 ≡ t → x ≡ bool_byte (eqb (get_or chunk (at + j) 0) 10)
+      → (n + x ≤ j + 1) × (n + x ≡ 0 → lf_at chunk at ≡ lf_at chunk (at + (j + 1)))
+  go true f y = let one : x ≡ 1 = y ∙ ap bool_byte f in (omega arith, λ z. absurd (omega (arith, z)))
+  go false f y =
+      let none : x ≡ 0 = y ∙ ap bool_byte f in
+      let s : at + j + 1 ≡ at + (j + 1) = omega arith in
+      (omega arith, λ z. g (omega (arith, z)) ∙ lf_past chunk (at + j) (omega arith) f ∙ ap (lf_at chunk) s)
+
+module _ (chunk line : List ℕ) (at e : ℕ) (found : e ≡ lf_at chunk at) where
   taken-count : length (up_to_lf (drop at chunk)) ≡ e - at
   unfolding lf_at
   taken-count = omega (arith, length_up (drop at chunk))
 
-  pub split-long : h.long ≡ true → (◌≡◌ {A = Taken} (record { held = too_long; at = e }) (taken h chunk at)) × (line ≡ took_line h (up_to_lf (drop at chunk)) line)
+  pub split-long : (◌≡◌ {A = Taken} (record { held = too_long; at = e }) (taken H.Long chunk at)) × (line ≡ took_line H.Long (up_to_lf (drop at chunk)) line)
   unfolding taken took_held took_line
-  split-long t = (rw (t, found), rw t)
+  split-long = (rw found, refl)
 
-  pub split-full : h.long ≡ false → line_digits < h.size + (e - at)
-      → (◌≡◌ {A = Taken} (record { held = too_long; at = e }) (taken h chunk at)) × (line ≡ took_line h (up_to_lf (drop at chunk)) line)
+  pub split-full : (n : ℕ) → line_digits < n + (e - at)
+      → (◌≡◌ {A = Taken} (record { held = too_long; at = e }) (taken (H.Bytes n) chunk at)) × (line ≡ took_line (H.Bytes n) (up_to_lf (drop at chunk)) line)
   unfolding taken took_held took_line
-  split-full t l =
-      let u : leb (h.size + length (up_to_lf (drop at chunk))) line_digits ≡ false = lt-leb (h.size + length (up_to_lf (drop at chunk))) line_digits (omega (arith, taken-count)) in
-      (rw (t, u, found), rw (t, u))
+  split-full n l =
+      let u : leb (n + length (up_to_lf (drop at chunk))) line_digits ≡ false = lt-leb (n + length (up_to_lf (drop at chunk))) line_digits (omega (arith, taken-count)) in
+      (rw (u, found), rw u)
 
-  pub split-copied : (m : List ℕ) → h.long ≡ false → h.size + (e - at) ≤ line_digits
-      → m ≡ over h.size (length (take (e - at) (drop at chunk))) (take (e - at) (drop at chunk)) line
-      → (◌≡◌ {A = Taken} (record { held = record { size = h.size + (e - at); long = false }; at = e }) (taken h chunk at)) × (m ≡ took_line h (up_to_lf (drop at chunk)) line)
+  pub split-copied : (n : ℕ) (m : List ℕ) → n + (e - at) ≤ line_digits
+      → m ≡ over n (length (take (e - at) (drop at chunk))) (take (e - at) (drop at chunk)) line
+      → (◌≡◌ {A = Taken} (record { held = H.Bytes (n + (e - at)); at = e }) (taken (H.Bytes n) chunk at)) × (m ≡ took_line (H.Bytes n) (up_to_lf (drop at chunk)) line)
   unfolding taken took_held took_line
-  split-copied m t l put =
+  split-copied n m l put =
       let q : List ℕ = up_to_lf (drop at chunk) in
-      let u : leb (h.size + length q) line_digits ≡ true = le-leb (h.size + length q) line_digits (omega (arith, taken-count)) in
+      let u : leb (n + length q) line_digits ≡ true = le-leb (n + length q) line_digits (omega (arith, taken-count)) in
       let same : take (e - at) (drop at chunk) ≡ q = ap (λ (k : ℕ). take k (drop at chunk)) (sym taken-count ∙ length_up (drop at chunk)) ∙ up_is (drop at chunk) in
-      (rw (t, u, taken-count) (ap (λ (x : ℕ). record { held = record { size = h.size + (e - at); long = false }; at = x }) found), put ∙ rw (t, u, same))
+      (rw (u, taken-count) (ap (λ (x : ℕ). record { held = H.Bytes (n + (e - at)); at = x }) found), put ∙ rw (u, same))

@@ -1,6 +1,6 @@
 -- What `parse` answers and leaves, for every text and buffer. RULES 8.3: refusal 6 where the buffer has no room for the
 -- longest line, then 7 for what is no line of a log. A refusal leaves the buffer as it was, and what is longer than the line keeps its tail.
-use Rattle.std.specs.Prelude.{ℕ, cond, List, leb, length}
+use Rattle.std.specs.Prelude.{ℕ, cond, List, leb, length, Option, Some, None, Result, Ok, Err}
 use Rattle.bits.specs.Answer.{Answer, given}
 use Rattle.bits.specs.Answer.{refused as refusal}
 use Rattle.bits.specs.Over.{over}
@@ -8,6 +8,10 @@ use Rattle.parts.specs.Parts.{capture_bytes}
 use Rattle.log_line.specs.Line.{Meaning, writes, screen, refused, meaning_of}
 use Rattle.log_line.specs.declared.Line.{Line}
 use Rattle.log_line.specs.declared.Line.TheVariants as L
+use Rattle.log_line.specs.declared.Kind.{Kind}
+use Rattle.log_line.specs.declared.Kind.TheVariants as K
+use Rattle.refusal.specs.declared.Refusal.{Refusal}
+use Rattle.refusal.specs.Codes.{code_of}
 
 -- what a line that is taken has: so many writes, or a screen
 pub data Content : Type 0 where
@@ -15,21 +19,21 @@ pub data Content : Type 0 where
   one_screen : Content
 
 -- the answer's number, or what is given
-unfoldable pub line_told : Line → Answer Content
-line_told (L.Refused n) = refusal n
-line_told (L.Writes n) = given (writes_of n)
-line_told L.Screen = given one_screen
+unfoldable pub line_told : Result Line Refusal → Answer Content
+line_told (Err r) = refusal (code_of r)
+line_told (Ok (L.Writes n)) = given (writes_of n)
+line_told (Ok L.Screen) = given one_screen
 
 unfoldable pub meaning_told : Meaning → Answer Content
 meaning_told (writes ws) = given (writes_of (length ws))
 meaning_told (screen d) = given one_screen
 meaning_told refused = refusal 7
 
--- a line's first byte if it is taken, else 0
-unfoldable pub kind_told : Meaning → ℕ
-kind_told (writes ws) = 1
-kind_told (screen d) = 2
-kind_told refused = 0
+-- what a line's first byte says if it is taken
+unfoldable pub kind_told : Meaning → Option Kind
+kind_told (writes ws) = Some K.Writes
+kind_told (screen d) = Some K.Screen
+kind_told refused = None
 
 -- a buffer with a line's writes or its screen at the front
 unfoldable pub filled : Meaning → List ℕ → List ℕ

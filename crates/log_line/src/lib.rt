@@ -8,59 +8,53 @@ ghost use Rattle.log_line.specs.Calls.{line_told, line_answer, line_bytes, kind_
 
 use hex_digits::{decode, spells, two_digits};
 use parts::CAPTURE_BYTES;
+use refusal::Refusal;
 
 pub mod lines;
 
 // The digits of the longest line that means something.
 pub const LINE_DIGITS: usize = 2 * (1 + CAPTURE_BYTES);
 
-// What a line is: refused, with its number (RULES 2.1); so many writes; or a screen.
-#[derive(Clone, Copy)]
+// What a line is: so many writes; or a screen.
+#[derive(Clone, Copy, Debug, PartialEq, Eq)]
 pub enum Line {
-    Refused(u8),
     Writes(usize),
     Screen,
 }
 
+// What a line's first byte says.
+#[derive(Clone, Copy)]
+enum Kind {
+    Writes,
+    Screen,
+}
+
 // A line's writes or its screen, at the front of `bytes`. The form is known to be good before a byte is decoded.
-pub fn parse(text: &[u8], bytes: &mut [u8]) -> Line
+pub fn parse(text: &[u8], bytes: &mut [u8]) -> Result<Line, Refusal>
     ensures result_value { line_told result ≡ line_answer text.now bytes.old }
     ensures bytes_after { bytes.new ≡ line_bytes text.now bytes.old }
 {
     if bytes.len() < CAPTURE_BYTES {
-        return Line::Refused(6);
+        return Err(Refusal::Output);
     }
-    let kind = kind_of(text);
-    if kind == 0 {
-        return Line::Refused(7);
-    }
-    let size = text.len();
-    decode(&text[2..size], bytes);
-    if kind == 2 {
-        return Line::Screen;
-    }
-    Line::Writes(size / 2 - 1)
+    let kind = kind_of(text).ok_or(Refusal::Line)?;
+    decode(&text[2..], bytes);
+    Ok(match kind {
+        Kind::Writes => Line::Writes(text.len() / 2 - 1),
+        Kind::Screen => Line::Screen,
+    })
 }
 
-// The first byte of a line of good form; 0 for any other line.
-fn kind_of(text: &[u8]) -> u8
+// The kind of a line of good form.
+fn kind_of(text: &[u8]) -> Option<Kind>
     ensures { result ≡ kind_told (meaning_of text.now) }
 {
-    if text.len() < 2 {
-        return 0;
+    if text.len() < 2 || text.len() > LINE_DIGITS || !spells(text) {
+        return None;
     }
-    if text.len() > LINE_DIGITS {
-        return 0;
+    match two_digits(text[0], text[1]) {
+        1 => Some(Kind::Writes),
+        2 => (text.len() == LINE_DIGITS).then_some(Kind::Screen),
+        _ => None,
     }
-    if !spells(text) {
-        return 0;
-    }
-    let kind = two_digits(text[0], text[1]);
-    if kind == 1 {
-        return 1;
-    }
-    if kind != 2 {
-        return 0;
-    }
-    if text.len() == LINE_DIGITS { 2 } else { 0 }
 }

@@ -1,17 +1,17 @@
 // Splitting an input that comes in chunks into lines, in bounded memory. The meaning is in specs/: `Lines` the lines of an input,
 // `Split` what a step does.
-ghost use Rattle.std.specs.Prelude.{true, false, ◌≡◌, ◌+◌, ◌≤◌, eqb, length, drop};
+ghost use Rattle.std.specs.Prelude.{true, ◌≡◌, ◌+◌, ◌≤◌, length, drop};
 ghost use Rattle.log_line.specs.Line.{line_digits};
-ghost use Rattle.log_line.specs.Split.{up_to_lf, lf_at, stride, took_line, taken};
+ghost use Rattle.log_line.specs.Split.{held_size, up_to_lf, lf_at, stride, took_line, taken};
 
 use crate::LINE_DIGITS;
 use bits::put;
 
 // How much of the present line is held in the line's buffer; or that it is longer than any line that means something.
-#[derive(Clone, Copy)]
-pub struct Held {
-    pub size: usize,
-    pub long: bool,
+#[derive(Clone, Copy, Debug, PartialEq, Eq)]
+pub enum Held {
+    Bytes(usize),
+    Long,
 }
 
 // What is held after a step, and where in the chunk it stopped: at an LF, or at the chunk's end.
@@ -24,39 +24,20 @@ pub struct Taken {
 // Takes the chunk's bytes from `at` up to the next LF onto the line that is held.
 pub fn split(held: Held, line: &mut [u8], chunk: &[u8], at: usize) -> Taken
     requires line_len { length line.old ≡ line_digits }
-    requires size_le_line_digits { held.size ≤ line_digits }
+    requires size_le_line_digits { held_size held ≤ line_digits }
     requires at_in_bounds { at ≤ length chunk.now }
     ensures value { result ≡ taken held chunk.now at }
     ensures line_after { line.new ≡ took_line held (up_to_lf (drop at chunk.now)) line.old }
 {
     let e = find_lf(chunk, at);
-    if held.long {
-        return Taken {
-            held: Held {
-                size: 0,
-                long: true,
-            },
-            at: e,
-        };
-    }
-    let size = held.size;
-    if LINE_DIGITS - size < e - at {
-        return Taken {
-            held: Held {
-                size: 0,
-                long: true,
-            },
-            at: e,
-        };
-    }
-    put(line, size, &chunk[at..e]);
-    Taken {
-        held: Held {
-            size: size + (e - at),
-            long: false,
-        },
-        at: e,
-    }
+    let held = match held {
+        Held::Bytes(size) if e - at <= LINE_DIGITS - size => {
+            put(line, size, &chunk[at..e]);
+            Held::Bytes(size + (e - at))
+        }
+        _ => Held::Long,
+    };
+    Taken { held: held, at: e }
 }
 
 // The bytes that are looked at at once.
@@ -82,14 +63,12 @@ fn find(chunk: &[u8], at: usize) -> usize
     ensures value { result ≡ lf_at chunk.now at }
     ensures lower_bound { (at ≤ result) × (result ≤ length chunk.now) }
 {
-    let mut i = at;
-    while i < chunk.len() {
+    for i in at..chunk.len() {
         if chunk[i] == 10 {
             return i;
         }
-        i += 1;
     }
-    i
+    chunk.len()
 }
 
 // Whether a whole stride is left and has no LF.
@@ -97,10 +76,7 @@ fn is_clear(chunk: &[u8], at: usize) -> bool
     requires { at ≤ length chunk.now }
     ensures { (result ≡ true) → ((at + stride ≤ length chunk.now) × (lf_at chunk.now at ≡ lf_at chunk.now (at + stride))) }
 {
-    if chunk.len() - at < STRIDE {
-        return false;
-    }
-    count_lf(chunk, at) == 0
+    chunk.len() - at >= STRIDE && count_lf(chunk, at) == 0
 }
 
 // How many LF a stride has.
@@ -109,16 +85,8 @@ fn count_lf(chunk: &[u8], at: usize) -> u8
     ensures { (result ≡ 0) → (lf_at chunk.now at ≡ lf_at chunk.now (at + stride)) }
 {
     let mut n: u8 = 0;
-    let mut j: usize = 0;
-    while j < STRIDE {
-        n += is_lf(chunk[at + j]);
-        j += 1;
+    for b in &chunk[at..at + STRIDE] {
+        n += u8::from(*b == 10);
     }
     n
-}
-
-fn is_lf(b: u8) -> u8
-    ensures { (result ≤ 1) × ((result ≡ 0) → (eqb b 10 ≡ false)) }
-{
-    if b == 10 { 1 } else { 0 }
 }

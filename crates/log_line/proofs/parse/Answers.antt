@@ -1,71 +1,55 @@
 -- `log_line::parse` meets its contract: the kind tells the form, and the digits past the first two are decoded.
-use Prim.Native.Nat.{◌≤◌}
+use mathlib.Core.Path.{◌≡◌, sym, ◌∙◌}
 use native.Mathlib.Omega.{arith}
-use lib.ListN.{length, drop, length-take, length-drop}
-use Rattle.hex_digits.specs.Hex.{spelled}
-use Rattle.parts.specs.Parts.{capture_bytes}
-use Rattle.log_line.proofs.Form.{Body}
-use Rattle.log_line.proofs.Told.{kind-refused, kind-body, kind_fits, kind-screen, kind-writes, past-kind}
+use lib.ListN.{length-take, length-drop}
+use Rattle.std.proofs.lemmas.Result.{err_from_is_err_and}
+use Rattle.refusal.specs.declared.Refusal.TheVariants as R
+use Rattle.log_line.proofs.Told.{kind-refused, kind-taken, past-kind}
 use Rattle.log_line.proofs.Told.{answers-short, answers-refused, answers-screen, answers-writes}
 use Rattle.bits.proofs.Named.{as-result_value-bytes_after}
 use Rattle.log_line.proofs.parse.Goals as goal
 
 pub returns-then-bytes-lt-CAPTURE_BYTES : goal.returns-then-bytes-lt-CAPTURE_BYTES
-returns-then-bytes-lt-CAPTURE_BYTES c = let start = c.args in
-    as-result_value-bytes_after (answers-short start.text.now start.bytes.now (omega arith))
+returns-then-bytes-lt-CAPTURE_BYTES c = as-result_value-bytes_after (answers-short c.args.text.now c.args.bytes.now (omega arith))
 
-pub kind_of-kind-requires : goal.kind_of-kind-requires
-kind_of-kind-requires c = tt
-
-pub returns-then-kind-eq0 : goal.returns-then-kind-eq0
-returns-then-kind-eq0 c =
-    let start = c.args in
-    let s = start.text.now in
-    let k = c.kind_of-kind in
-    as-result_value-bytes_after (answers-refused s start.bytes.now (omega arith) (kind-refused s k.result k.ensures c.if-kind-eq0.true))
+pub returns-in_err-kind : goal.returns-in_err-kind
+returns-in_err-kind c =
+    let s = c.args.text.now in
+    let h = kind-refused s (sym c.in_err-kind.ensures.ok_part ∙ c.kind_of.ensures) in
+    let p = err_from_is_err_and c.from_residual.result c.from_residual.ensures.1 in
+    let v = rw c.in_err-kind.ensures.ok_part at c.in_err-kind.ensures.value in
+    let e : c.in_err-kind.field-0.0 ≡ R.Line = cc in
+    as-result_value-bytes_after (rw (p.1, p.2, e) (answers-refused s c.args.bytes.now (omega arith) h))
 
 pub slice_bounds-decode-count : goal.slice_bounds-decode-count
 slice_bounds-decode-count c =
-    let start = c.args in
-    let s = start.text.now in
-    let k = c.kind_of-kind in
-    omega (arith, (kind-body s k.result k.ensures c.if-kind-eq0.false).long)
+    let t = kind-taken c.args.text.now c.in_ok-kind.kind (sym c.in_ok-kind.ensures.ok_part ∙ c.kind_of.ensures) in
+    t.body.long
 
 pub slice_bounds-decode-start : goal.slice_bounds-decode-start
 slice_bounds-decode-start c =
-    let start = c.args in
-    let s = start.text.now in
-    let k = c.kind_of-kind in
-    omega (arith, (kind-body s k.result k.ensures c.if-kind-eq0.false).long)
+    let t = kind-taken c.args.text.now c.in_ok-kind.kind (sym c.in_ok-kind.ensures.ok_part ∙ c.kind_of.ensures) in
+    t.body.long
 
 pub decode-requires : goal.decode-requires
 decode-requires c =
-    let start = c.args in
-    let s = start.text.now in
-    let k = c.kind_of-kind in
-    let y : Body s = kind-body s k.result k.ensures c.if-kind-eq0.false in
-    let n : length (spelled (drop 2 s)) ≤ capture_bytes = kind_fits s k.result k.ensures c.if-kind-eq0.false in
-    record { text_value = rw (past-kind s) y.rest; text_len_bound = simp (length-take, length-drop) (omega arith) }
-
-pub returns-then-kind-eq2 : goal.returns-then-kind-eq2
-returns-then-kind-eq2 c =
-    let start = c.args in
-    let s = start.text.now in
-    let k = c.kind_of-kind in
-    as-result_value-bytes_after (answers-screen s start.bytes.now (omega arith) _ (rw (past-kind s) at c.decode.ensures) (kind-screen s k.result k.ensures c.if-kind-eq2.true))
+    let s = c.args.text.now in
+    let t = kind-taken s c.in_ok-kind.kind (sym c.in_ok-kind.ensures.ok_part ∙ c.kind_of.ensures) in
+    record { text_value = rw (past-kind s) t.body.rest; text_len_bound = simp (length-take, length-drop) (omega arith) }
 
 pub overflow_sub-result : goal.overflow_sub-result
 overflow_sub-result c =
-    let start = c.args in
-    let s = start.text.now in
-    let k = c.kind_of-kind in
-    omega (arith, (kind-body s k.result k.ensures c.if-kind-eq0.false).long)
+    let t = kind-taken c.args.text.now c.in_ok-kind.kind (sym c.in_ok-kind.ensures.ok_part ∙ c.kind_of.ensures) in
+    omega (arith, t.body.long)
 
-pub returns : goal.returns
-returns c =
-    let start = c.args in
-    let s = start.text.now in
-    let k = c.kind_of-kind in
-    let y : Body s = kind-body s k.result k.ensures c.if-kind-eq0.false in
-    as-result_value-bytes_after (answers-writes s start.bytes.now (omega arith) _ (rw (past-kind s) at c.decode.ensures) _ (omega arith)
-    (kind-writes s k.result k.ensures c.if-kind-eq0.false c.if-kind-eq2.false))
+pub returns-in-Writes : goal.returns-in-Writes
+returns-in-Writes c =
+    let s = c.args.text.now in
+    let t = kind-taken s c.in_ok-kind.kind (sym c.in_ok-kind.ensures.ok_part ∙ c.kind_of.ensures) in
+    as-result_value-bytes_after (answers-writes s c.args.bytes.now (omega arith) _ (rw (past-kind s) at c.decode.ensures) _ (omega arith) (rw c.in-Writes.is at t.means))
+
+pub returns-in-Screen : goal.returns-in-Screen
+returns-in-Screen c =
+    let s = c.args.text.now in
+    let t = kind-taken s c.in_ok-kind.kind (sym c.in_ok-kind.ensures.ok_part ∙ c.kind_of.ensures) in
+    as-result_value-bytes_after (answers-screen s c.args.bytes.now (omega arith) _ (rw (past-kind s) at c.decode.ensures) (rw c.in-Screen.is at t.means))
