@@ -1,12 +1,11 @@
--- Whether there is more to do, and the LF that a last line lacks, by the tests that the code makes.
+-- Whether there is more to do, by the tests that the code makes.
 use mathlib.Core.Path.{◌≡◌, refl, sym, ◌∙◌}
 use mathlib.Core.Bool.{Bool, true, false}
 use Prim.Native.Nat.{ℕ, ◌≤◌, ◌<◌}
 use native.Mathlib.Omega.{arith}
 use borrow.Author.Tests.{ltb-true, ltb-false, lt-ltb, le-ltb}
 use lib.Dec.{ltb}
-use lib.ListN.{length}
-use Rattle.log_reading.specs.Point.{left, last_lf}
+use Rattle.log_reading.specs.Point.{left}
 use Rattle.log_reading.specs.declared.Reading.{Reading}
 
 -- at the chunk's end only the present line's writes are left
@@ -17,20 +16,5 @@ is-pending r size at h = go (ltb r.from r.upto) refl
     go true e = let m : r.from < r.upto = ltb-true r.from r.upto e in e ∙ sym (lt-ltb 0 (left r size at) (unfold left in omega arith))
     go false e = let m : r.upto ≤ r.from = ltb-false r.from r.upto e in e ∙ sym (le-ltb 0 (left r size at) (unfold left in omega arith))
 
-pub is-chunk : (r : Reading) (size at : ℕ) → at < size → true ≡ ltb 0 (left r size at)
-is-chunk r size at h = sym (lt-ltb 0 (left r size at) (unfold left in omega arith))
-
--- ---- the last LF
-
-module _ (r : Reading) where
-  pub last-long : r.held.long ≡ true → 1 ≡ length (last_lf r)
-  unfolding last_lf
-  last-long e = rw e
-
-  pub last_some : r.held.long ≡ false → 0 < r.held.size → 1 ≡ length (last_lf r)
-  unfolding last_lf
-  last_some e h = rw (e, lt-ltb 0 r.held.size h)
-
-  pub last_none : r.held.long ≡ false → r.held.size ≤ 0 → 0 ≡ length (last_lf r)
-  unfolding last_lf
-  last_none e h = rw (e, le-ltb 0 r.held.size h)
+pub is-chunk : (r : Reading) (size at : ℕ) → at < size → ltb at size ≡ ltb 0 (left r size at)
+is-chunk r size at h = lt-ltb at size h ∙ sym (lt-ltb 0 (left r size at) (unfold left in omega arith))

@@ -3,6 +3,8 @@
 use Rattle.std.specs.Prelude.{ℕ, ◌+◌, ◌-◌, ◌*◌, cond, List, [], ◌∷◌, ltb}
 use Rattle.parts.specs.Parts.{capture_bytes}
 use Rattle.log_line.specs.Split.{nothing}
+use Rattle.log_line.specs.declared.lines.Held.{Held}
+use Rattle.log_line.specs.declared.lines.Held.TheVariants as H
 use Rattle.log_reading.specs.declared.Reading.{Reading}
 
 -- a reading begins at line 1, with nothing held
@@ -14,5 +16,9 @@ unfoldable pub left : Reading → ℕ → ℕ → ℕ
 left r size at = (size - at) * (capture_bytes + 2) + (r.upto - r.from)
 
 -- a last line that lacks its LF gets it: the bytes to feed when the input has ended
+unfoldable pub lf_behind : Held → List ℕ
+lf_behind (H.Bytes n) = cond (ltb 0 n) (10 ∷ []) []
+lf_behind H.Long = 10 ∷ []
+
 unfoldable pub last_lf : Reading → List ℕ
-last_lf r = cond r.held.long (10 ∷ []) (cond (ltb 0 r.held.size) (10 ∷ []) [])
+last_lf r = lf_behind r.held

@@ -22,10 +22,7 @@ pub fn begin() -> Reading
     ensures { result ≡ begun }
 {
     Reading {
-        held: Held {
-            size: 0,
-            long: false,
-        },
+        held: Held::Bytes(0),
         number: 1,
         from: 0,
         upto: 0,
@@ -36,22 +33,15 @@ pub fn begin() -> Reading
 pub fn is_left(reading: Reading, size: usize, at: usize) -> bool
     ensures { result ≡ ltb 0 (left reading size at) }
 {
-    if at < size {
-        return true;
-    }
-    reading.from < reading.upto
+    at < size || reading.from < reading.upto
 }
 
 // How many bytes of LF are to be fed when the input has ended: one for a last line that lacks it.
 pub fn last_lf(reading: Reading) -> usize
     ensures { result ≡ length (last_lf reading) }
 {
-    let held = reading.held;
-    if held.long {
-        return 1;
+    match reading.held {
+        Held::Bytes(size) => usize::from(size > 0),
+        Held::Long => 1,
     }
-    if 0 < held.size {
-        return 1;
-    }
-    0
 }

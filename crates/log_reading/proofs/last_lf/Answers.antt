@@ -1,12 +1,21 @@
 -- By what is held.
-use Rattle.log_reading.proofs.Left.{last-long, last_some, last_none}
+use mathlib.Core.Path.{◌≡◌, refl, ◌∙◌}
+use mathlib.Core.Bool.{Bool, true, false, cond}
+use Prim.Native.Nat.{ℕ}
+use mathlib.Core.List.{[], ◌∷◌}
+use lib.ListN.{length}
+use mir.Val.{bool_byte}
+use Rattle.log_reading.specs.Point.{last_lf, lf_behind}
 use Rattle.log_reading.proofs.last_lf.Goals as goal
 
-pub returns-then-held : goal.returns-then-held
-returns-then-held c = last-long c.args.reading c.if-held.true
+counts : (t : Bool) → bool_byte t ≡ length {A = ℕ} (cond t (10 ∷ []) [])
+counts true = refl
+counts false = refl
 
-pub returns-then-held-gt0 : goal.returns-then-held-gt0
-returns-then-held-gt0 c = last_some c.args.reading c.if-held.false c.if-held-gt0.true
+pub returns-in-Bytes : goal.returns-in-Bytes
+unfolding last_lf lf_behind
+returns-in-Bytes c = c.from.ensures ∙ rw c.in-Bytes.is (counts _)
 
-pub returns : goal.returns
-returns c = last_none c.args.reading c.if-held.false c.if-held-gt0.false
+pub returns-in-Long : goal.returns-in-Long
+unfolding last_lf lf_behind
+returns-in-Long c = rw c.in-Long.is
