@@ -5,8 +5,6 @@ ghost use Rattle.std.specs.Prelude.{◌≡◌, ◌+◌, ◌-◌, ◌*◌, ◌≤
 ghost use Rattle.attribute_map.specs.Data.{Whole, steps};
 ghost use Rattle.attribute_cells.specs.Chr.{next, place_of, put_at, pair_of_data, chr_map};
 
-use attribute_map::lesser;
-
 // A place on the map, or off it: a start may be anywhere, and neither number wraps at 256.
 #[derive(Clone, Copy)]
 pub struct Spot {
@@ -20,18 +18,18 @@ impl Spot {
         requires { (self.x < 65536) × (self.y < 65536) }
         ensures { result ≡ next along self }
     {
-        let x = self.x;
-        let y = self.y;
+        let Spot { x, y } = self;
         if along {
             if x + 1 < 20 {
-                return Spot { x: x + 1, y };
+                Spot { x: x + 1, y }
+            } else {
+                Spot { x: 0, y: y + 1 }
             }
-            return Spot { x: 0, y: y + 1 };
+        } else if y + 1 < 18 {
+            Spot { x, y: y + 1 }
+        } else {
+            Spot { x: x + 1, y: 0 }
         }
-        if y + 1 < 18 {
-            return Spot { x, y: y + 1 };
-        }
-        Spot { x: x + 1, y: 0 }
     }
 }
 
@@ -39,11 +37,11 @@ pub fn attr_chr(map: [[u8; 20]; 18], d: &[u8]) -> [[u8; 20]; 18]
     requires { Whole d.now }
     ensures { result ≡ chr_map d.now map }
 {
-    let count = bits::word(d[3], d[4]) as usize;
-    let total = lesser(count, 4 * (d.len() - 6));
+    let count = usize::from(bits::word(d[3], d[4]));
+    let total = count.min(4 * (d.len() - 6));
     let start = Spot {
-        x: bits::wide(d[1]),
-        y: bits::wide(d[2]),
+        x: usize::from(d[1]),
+        y: usize::from(d[2]),
     };
     run(map, d, start, d[5] == 0, total)
 }
@@ -55,19 +53,13 @@ fn run(map: [[u8; 20]; 18], d: &[u8], start: Spot, along: bool, total: usize) ->
 {
     let mut m = map;
     let mut s = start;
-    let mut k: usize = 0;
-    while k < total {
+    for k in 0..total {
         let v = bits::pair(d[6 + k / 4], (k % 4) as u8);
-        let x = s.x;
-        let y = s.y;
         // A place off the map uses v up.
-        if x < 20 {
-            if y < 18 {
-                m[y][x] = v;
-            }
+        if s.x < 20 && s.y < 18 {
+            m[s.y][s.x] = v;
         }
         s = s.next(along);
-        k += 1;
     }
     m
 }

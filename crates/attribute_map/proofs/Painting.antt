@@ -1,6 +1,6 @@
--- A map that two nested loops paint, `for y in 0..18 { for x in 0..20 { m[y][x] = f(x, y); } }`: a store changes its own cell alone,
--- so what is painted stays. `Painting f m y x` is the invariant of both loops, at x = 0 that of the outer one.
-use mathlib.Core.Path.{◌≡◌, ap, ◌∙◌}
+-- A map that two nested loops paint, `for y in 0..18 { for x in 0..20 { m[y][x] = rule(..); } }`: a store changes its own cell alone,
+-- so what is painted stays. `Painting R m y x` is the invariant of both loops, at x = 0 that of the outer one.
+use mathlib.Core.Path.{◌≡◌, ap, sym, subst, ◌∙◌}
 use mathlib.Core.List.{List, []}
 use Prim.Native.Nat.{ℕ, ◌+◌, ◌<◌, ◌≤◌}
 use native.Mathlib.Nat.{not-suc-le-zero}
@@ -42,35 +42,37 @@ module _ {m : List (List ℕ)} (s : Sized m) {x y : ℕ} (v : ℕ) (hx : x < col
   pub stored-sized : Sized (stored m x y v)
   stored-sized = record { down = length-set m y (set (get_or m y []) x v) ∙ s.down; across = λ j k. long j k (ℕ_discrete j y) }
 
--- the rows above y are painted, and x cells of row y
-pub record Painting (f : ℕ → ℕ → ℕ) (m : List (List ℕ)) (y x : ℕ) : Type 0 where
+-- the rows above y are painted, and x cells of row y: R i j v says of a cell in column i and row j that it may hold v
+pub record Painting (R : ℕ → ℕ → ℕ → Type 0) (m : List (List ℕ)) (y x : ℕ) : Type 0 where
   pub sized : Sized m
-  pub above : (j : ℕ) → j < y → (i : ℕ) → i < columns → cell m i j ≡ f i j
-  pub left : (i : ℕ) → i < x → cell m i y ≡ f i y
+  pub above : (j : ℕ) → j < y → (i : ℕ) → i < columns → R i j (cell m i j)
+  pub left : (i : ℕ) → i < x → R i y (cell m i y)
 
-pub painting_none : {f : ℕ → ℕ → ℕ} {m : List (List ℕ)} → Sized m → Painting f m 0 0
+pub painting_none : {R : ℕ → ℕ → ℕ → Type 0} {m : List (List ℕ)} → Sized m → Painting R m 0 0
 painting_none s = record { sized = s; above = λ j h. absurd (not-suc-le-zero h); left = λ i h. absurd (not-suc-le-zero h) }
 
-pub painting_turn : {f : ℕ → ℕ → ℕ} {m : List (List ℕ)} {y x : ℕ} → Painting f m y x → (v : ℕ) → x < columns → y < rows → v ≡ f x y
-    → Painting f (stored m x y v) y (x + 1)
-painting_turn {f} {m} {y} {x} p v hx hy e =
+pub painting_turn : {R : ℕ → ℕ → ℕ → Type 0} {m : List (List ℕ)} {y x : ℕ} → Painting R m y x → (v : ℕ) → x < columns → y < rows → R x y v
+    → Painting R (stored m x y v) y (x + 1)
+painting_turn {R} {m} {y} {x} p v hx hy e =
     let s = p.sized in
     record {
       sized = stored-sized s v hx hy;
-      above = λ j h i k. stored-elsewhere s v hx hy i j (λ q. omega arith) ∙ p.above j h i k;
+      above = λ j h i k. subst (R i j) (sym (stored-elsewhere s v hx hy i j (λ q. omega arith))) (p.above j h i k);
       left =
-          below_more (λ (i : ℕ). cell (stored m x y v) i y ≡ f i y) x
-          (λ i h. stored-in-row s v hx hy i (λ q. omega arith) ∙ p.left i h)
-          (stored_here s v hx hy ∙ e);
+          below_more (λ (i : ℕ). R i y (cell (stored m x y v) i y)) x
+          (λ i h. subst (R i y) (sym (stored-in-row s v hx hy i (λ q. omega arith))) (p.left i h))
+          (subst (R x y) (sym (stored_here s v hx hy)) e);
     }
 
-pub painting-row : {f : ℕ → ℕ → ℕ} {m : List (List ℕ)} {y x : ℕ} → Painting f m y x → columns ≤ x → Painting f m (y + 1) 0
-painting-row {f} {m} {y} {x} p h =
+pub painting-row : {R : ℕ → ℕ → ℕ → Type 0} {m : List (List ℕ)} {y x : ℕ} → Painting R m y x → columns ≤ x → Painting R m (y + 1) 0
+painting-row {R} {m} {y} {x} p h =
     record {
       sized = p.sized;
-      above = below_more (λ (j : ℕ). (i : ℕ) → i < columns → cell m i j ≡ f i j) y p.above (λ i k. p.left i (omega arith));
+      above = below_more (λ (j : ℕ). (i : ℕ) → i < columns → R i j (cell m i j)) y p.above (λ i k. p.left i (omega arith));
       left = λ i k. absurd (not-suc-le-zero k);
     }
 
-pub painting_all : {f : ℕ → ℕ → ℕ} {m : List (List ℕ)} {y : ℕ} → Painting f m y 0 → rows ≤ y → m ≡ grid f
-painting_all {f} {m} {y} p h = grid_is p.sized f (λ i j hi hj. p.above j (omega arith) i hi)
+-- with all of them painted, and R leaving one value for each cell, the map is told
+pub painting_all : {R : ℕ → ℕ → ℕ → Type 0} {m : List (List ℕ)} {y : ℕ} → Painting R m y 0 → rows ≤ y → (f : ℕ → ℕ → ℕ)
+    → ((i j v : ℕ) → R i j v → v ≡ f i j) → m ≡ grid f
+painting_all {R} {m} {y} p h f e = grid_is p.sized f (λ i j hi hj. e i j (cell m i j) (p.above j (omega arith) i hi))

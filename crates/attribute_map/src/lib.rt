@@ -3,27 +3,36 @@
 // ATTR_BLK in `attribute_blocks` and ATTR_CHR in `attribute_cells`; what they share is here.
 #![tactic(auto)]
 
-ghost use Rattle.std.specs.Prelude.{◌≡◌, ◌+◌, ◌*◌, ◌%◌, min, length};
+ghost use Rattle.std.specs.Prelude.{◌≡◌, ℕ, ◌+◌, ◌*◌, ◌%◌, ◌<◌, length};
 ghost use Rattle.parts.specs.Parts.{map_bytes};
-ghost use Rattle.attribute_map.specs.Map.{pack, unpack};
+ghost use Rattle.attribute_map.specs.Map.{columns, rows, pack, packed_cell, unpack};
+ghost use Rattle.attribute_map.specs.Data.{changed};
 
 // The map that ninety bytes are.
 pub fn unpack(bytes: &[u8]) -> [[u8; 20]; 18]
     requires { length bytes.now ≡ map_bytes }
     ensures { result ≡ unpack bytes.now }
 {
-    fill([[0u8; 20]; 18], bytes)
+    changed([[0; 20]; 18], |x, y, _| packed_cell(bytes, x, y))
 }
 
-// The same over a map that is there: each of its cells is replaced.
-fn fill(map: [[u8; 20]; 18], bytes: &[u8]) -> [[u8; 20]; 18]
-    requires { length bytes.now ≡ map_bytes }
-    ensures { result ≡ unpack bytes.now }
+// The cell in column x and row y of ninety bytes.
+fn packed_cell(bytes: &[u8], x: usize, y: usize) -> u8
+    requires { (length bytes.now ≡ map_bytes) × (x < columns) × (y < rows) }
+    ensures { result ≡ packed_cell bytes.now x y }
+{
+    bits::pair(bytes[5 * y + x / 4], (x % 4) as u8)
+}
+
+// The map with each cell changed by a rule of its column, its row and what it held.
+pub fn changed<F: Fn(usize, usize, u8) -> u8>(map: [[u8; 20]; 18], rule: F) -> [[u8; 20]; 18]
+    requires { (x y old : ℕ) → x < columns → y < rows → F.pre rule x y old }
+    ensures { (f : ℕ → ℕ → ℕ → ℕ) → ((x y old new : ℕ) → F.post rule x y old new → new ≡ f x y old) → result ≡ changed f map }
 {
     let mut m = map;
     for y in 0..18 {
         for x in 0..20 {
-            m[y][x] = bits::pair(bytes[5 * y + x / 4], (x % 4) as u8);
+            m[y][x] = rule(x, y, map[y][x]);
         }
     }
     m
@@ -46,11 +55,4 @@ pub fn four(a: u8, b: u8, c: u8, d: u8) -> u8
     ensures { result ≡ a % 4 * 64 + b % 4 * 16 + c % 4 * 4 + d % 4 }
 {
     (a & 3) << 6 | (b & 3) << 4 | (c & 3) << 2 | d & 3
-}
-
-// How many turns: as many as a command announces, or as its data hold.
-pub fn lesser(announced: usize, held: usize) -> usize
-    ensures { result ≡ min announced held }
-{
-    if announced < held { announced } else { held }
 }

@@ -7,14 +7,13 @@ use Rattle.attribute_map.proofs.Steps.{after_none, after_more}
 use Rattle.attribute_blocks.proofs.attr_blk.Goals as goal
 
 pub loop-i-init : goal.loop-i-init
-loop-i-init c = (omega arith, omega arith, after_none)
+loop-i-init c = after_none
 
 pub loop-i-preserved : goal.loop-i-preserved
-loop-i-preserved c =
-    (omega arith, omega arith, after_more c.loop-i.invariant.2 (c.one_set-n.ensures ∙ rw c.set_at.ensures))
+loop-i-preserved c = after_more c.loop-i.invariant (c.one_set-next.ensures ∙ rw c.at.ensures)
 
 pub returns : goal.returns
 unfolding blk_map
 returns c =
     let s = c.args in
-    c.loop-i.invariant.2.is ∙ ap (λ n. steps (λ i. changed (blk_cell (set_at s.d.now i))) n s.map) (omega arith)
+    c.loop-i.invariant.is ∙ ap (λ n. steps (λ i. changed (blk_cell (set_at s.d.now i))) n s.map) (omega arith)

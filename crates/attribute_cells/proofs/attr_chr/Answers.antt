@@ -6,6 +6,4 @@ use Rattle.attribute_cells.proofs.attr_chr.Goals as goal
 
 pub returns : goal.returns
 unfolding chr_map word_at
-returns c =
-    c.run.ensures
-    ∙ rw (c.wide-2.ensures.0, c.wide.ensures.0, c.lesser-total.ensures, c.word-count.ensures)
+returns c = c.run.ensures ∙ rw (c.from-2.ensures, c.from.ensures, c.min-total.ensures, c.from-count.ensures, c.word.ensures)

@@ -10,15 +10,15 @@ use Rattle.attribute_map.specs.Map.{pack}
 use Rattle.attribute_map.proofs.pack.Goals as goal
 
 pub loop-i-init : goal.loop-i-init
-loop-i-init c = (omega arith, search rules, painted_none)
+loop-i-init c = (search rules, painted_none)
 
 pub loop-i-preserved : goal.loop-i-preserved
 unfolding packed
-loop-i-preserved c = (omega arith, search rules, painted_turn c.loop-i.invariant.2 _ _ (sym (zero-add _)) (c.four.ensures ∙ simp add-zero))
+loop-i-preserved c = (search rules, painted_turn c.loop-i.invariant.1 _ _ (sym (zero-add _)) (c.four.ensures ∙ simp add-zero))
 
 pub shape_of-bytes : goal.shape_of-bytes
-shape_of-bytes c = painted-length c.loop-i.invariant.2
+shape_of-bytes c = painted-length c.loop-i.invariant.1
 
 pub returns : goal.returns
 unfolding pack
-returns c = painted_all (painted-count c.loop-i.invariant.2 map_bytes (omega arith)) (search rules)
+returns c = painted_all (painted-count c.loop-i.invariant.1 map_bytes (omega arith)) (search rules)

@@ -1,5 +1,4 @@
 use mathlib.Core.Path.{◌≡◌}
-use Prim.Native.Nat.{◌-◌, ◌≤◌}
 use lib.ListN.{length}
 use Rattle.parts.specs.Parts.{map_bytes}
 use Rattle.bits.specs.Paint.{Painted}
@@ -7,8 +6,4 @@ use Rattle.attribute_map.specs.Map.{four_at}
 use Rattle.attribute_map.proofs.pack.Given as goal
 
 abbrev pub invariant-loop-i : goal.invariant-loop-i
-invariant-loop-i l =
-    (l.i ≤ map_bytes) × (length l.bytes ≡ map_bytes) × Painted l.bytes l.initial.bytes 0 l.i (four_at l.map)
-
-abbrev pub decreases-loop-i : goal.decreases-loop-i
-decreases-loop-i l = map_bytes - l.i
+invariant-loop-i l = (length l.bytes ≡ map_bytes) × Painted l.bytes l.initial.bytes 0 l.i (four_at l.map)

@@ -7,14 +7,14 @@ pub returns-then-x-lt20 : goal.returns-then-x-lt20
 unfolding next
 returns-then-x-lt20 c = simp (c.if-along.true, lt-ltb _ _ c.if-x-lt20.true)
 
-pub returns-then-along : goal.returns-then-along
+pub returns-else-x-lt20 : goal.returns-else-x-lt20
 unfolding next
-returns-then-along c = simp (c.if-along.true, le-ltb _ _ c.if-x-lt20.false)
+returns-else-x-lt20 c = simp (c.if-along.true, le-ltb _ _ c.if-x-lt20.false)
 
 pub returns-then-y-lt18 : goal.returns-then-y-lt18
 unfolding next
 returns-then-y-lt18 c = simp (c.if-along.false, lt-ltb _ _ c.if-y-lt18.true)
 
-pub returns : goal.returns
+pub returns-else-y-lt18 : goal.returns-else-y-lt18
 unfolding next
-returns c = simp (c.if-along.false, le-ltb _ _ c.if-y-lt18.false)
+returns-else-y-lt18 c = simp (c.if-along.false, le-ltb _ _ c.if-y-lt18.false)

@@ -13,6 +13,6 @@ pub returns-then-p-at-2 : goal.returns-then-p-at-2
 unfolding side_of
 returns-then-p-at-2 c = simp (le-ltb _ _ c.if-p-at.false, eq-eqb _ _ c.if-p-at-2.true, pair-mask)
 
-pub returns : goal.returns
+pub returns-else-p-at-2 : goal.returns-else-p-at-2
 unfolding side_of
-returns c = simp (le-ltb _ _ c.if-p-at.false, ne_eqb _ _ c.if-p-at-2.false, pair-mask, div-one)
+returns-else-p-at-2 c = simp (le-ltb _ _ c.if-p-at.false, ne_eqb _ _ c.if-p-at-2.false, pair-mask, div-one)

@@ -1,7 +1,7 @@
 -- The six bytes are read where the set stands.
 use mathlib.Core.Path.{refl}
 use Rattle.attribute_blocks.specs.Blk.{set_at}
-use Rattle.attribute_blocks.proofs.set_at.Goals as goal
+use Rattle.attribute_blocks.proofs.BlkSet.at.Goals as goal
 
 pub returns : goal.returns
 unfolding set_at
