@@ -1,5 +1,5 @@
 -- What every decoded command is like: its palettes are there, its bytes are whole, and a plain MASK_EN does not freeze.
-use Rattle.std.specs.Prelude.{◌≡◌, ◌<◌, ◌≢◌}
+use Rattle.std.specs.Prelude.{◌<◌, ◌≢◌}
 use Rattle.attribute_map.specs.Data.{Whole}
 use Rattle.commands.specs.Command.{Plain, pal_pair, attr_blk, attr_lin, attr_div, attr_chr, mlt_req, mask_en, nothing, Fixed, pal_set, attr_set, freeze, transfer, Command, plain, fixed}
 

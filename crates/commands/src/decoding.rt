@@ -38,8 +38,7 @@ pub fn decode(d: &[u8]) -> Command
     requires { 16 ≤ length d.now }
     ensures { told result d.now ≡ decode d.now }
 {
-    let code = d[0] >> 3;
-    match code {
+    match d[0] >> 3 {
         0x00 => Command::Plain(PlainCommand::PalPair(0, 1)),
         0x01 => Command::Plain(PlainCommand::PalPair(2, 3)),
         0x02 => Command::Plain(PlainCommand::PalPair(0, 3)),
@@ -65,9 +64,10 @@ fn masking(mode: u8) -> Command
     ensures { (d : List ℕ) → told result d ≡ masking mode }
 {
     if mode == 1 {
-        return Command::Fixed(FixedCommand::Freeze);
+        Command::Fixed(FixedCommand::Freeze)
+    } else {
+        Command::Plain(PlainCommand::MaskEn(mode))
     }
-    Command::Plain(PlainCommand::MaskEn(mode))
 }
 
 fn tiles(upper_half: bool) -> Command

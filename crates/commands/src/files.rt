@@ -18,7 +18,7 @@ pub fn attr_set_map(map: &mut [u8], files: &[u8], flags: u8)
     requires { (length map.old ≡ map_bytes) × (length files.now ≡ files_bytes) }
     ensures { map.new ≡ attr_set_map flags files.now map.old }
 {
-    let n = bits::wide(flags & 0x3F);
+    let n = usize::from(flags & 0x3F);
     if n < 45 {
         let at = parts::MAP_BYTES * n;
         bits::put(map, 0, &files[at..at + parts::MAP_BYTES]);

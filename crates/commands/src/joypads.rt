@@ -13,14 +13,13 @@ pub fn mlt_req(index: u8, d1: u8) -> Pads
     ensures { result ≡ mlt_req d1 index }
 {
     let mask = d1 & 3;
-    if mask == 2 {
-        return Pads {
-            index: std::num::wrapping_add_u8(index, 1) & mask,
-            mask,
-        };
-    }
+    let moved = if mask == 2 {
+        index.wrapping_add(1)
+    } else {
+        index
+    };
     Pads {
-        index: index & mask,
+        index: moved & mask,
         mask,
     }
 }

@@ -8,6 +8,6 @@ pub returns-then-mode-eq1 : goal.returns-then-mode-eq1
 unfolding masking told told_fixed
 returns-then-mode-eq1 c = λ d. simp (eq-eqb _ _ c.if-mode-eq1.true)
 
-pub returns : goal.returns
+pub returns-else-mode-eq1 : goal.returns-else-mode-eq1
 unfolding masking told told_plain
-returns c = λ d. simp (ne_eqb _ _ c.if-mode-eq1.false)
+returns-else-mode-eq1 c = λ d. simp (ne_eqb _ _ c.if-mode-eq1.false)

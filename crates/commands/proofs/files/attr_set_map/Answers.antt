@@ -12,11 +12,11 @@ pub returns-then-n-lt45 : goal.returns-then-n-lt45
 unfolding attr_set_map file_of
 returns-then-n-lt45 c =
     let put = c in
-    let n = put.wide-n.result in
+    let n = put.from-n.result in
     let s = put.args in
     let k : map_bytes * n + map_bytes - map_bytes * n ≡ map_bytes = omega arith in
     let l : length (part (map_bytes * n) map_bytes s.files.now) ≡ map_bytes = length_part (map_bytes * n) map_bytes s.files.now (omega arith) in
-    let e : n ≡ s.flags % 64 = put.wide-n.ensures.0 ∙ and_mask s.flags 6 in
+    let e : n ≡ s.flags % 64 = put.from-n.ensures ∙ and_mask s.flags 6 in
     let lt : s.flags % 64 < file_count = omega arith in
     put.put.ensures ∙ rw (k, l) (over_all map_bytes (part (map_bytes * n) map_bytes s.files.now) s.map.now (search rules) ∙ rw (e, lt-ltb _ _ lt))
 
@@ -24,6 +24,6 @@ pub returns-else-n-lt45 : goal.returns-else-n-lt45
 unfolding attr_set_map file_of
 returns-else-n-lt45 c =
     let s = c.args in
-    let e : c.wide-n.result ≡ s.flags % 64 = c.wide-n.ensures.0 ∙ and_mask s.flags 6 in
+    let e : c.from-n.result ≡ s.flags % 64 = c.from-n.ensures ∙ and_mask s.flags 6 in
     let le : file_count ≤ s.flags % 64 = omega arith in
     rw (le-ltb _ _ le)
