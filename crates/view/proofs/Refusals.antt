@@ -12,6 +12,10 @@ use Rattle.parts.specs.Parts.{block_bytes}
 use Rattle.layout.specs.Valid.{valid, valid_parts}
 use Rattle.broken.specs.Broken.{broken, broken_number}
 use Rattle.broken.proofs.Numbers.{Read, number_read, number-valid}
+use Rattle.std.specs.Prelude.{Result, IsErrAnd}
+use Rattle.refusal.specs.declared.Refusal.{Refusal}
+use Rattle.refusal.specs.Codes.{code_of, told_by}
+use Rattle.refusal.proofs.Told.{code-some, passed_on}
 use Rattle.view.specs.Refusal.{refusing, refusal_of, Valid}
 use Rattle.view.specs.Looks.{leaves}
 
@@ -38,6 +42,11 @@ refuses b a r e n = go (eqb (length b) block_bytes) (valid b) e
     go true true z = absurd (n z)
     go true false z = ap refused z
     go false t z = ap refused z
+
+-- so a refusal of the block leaves the call by its `?`
+pub refused_by : {A V : Type 0} (f : V → A) (b : List ℕ) (a : Answer A) (r : Result V Refusal) (e : Refusal) → code_of e ≡ refusal_of b
+    → IsErrAnd r (λ y. y ≡ e) → told_by f r ≡ refusing b a
+refused_by f b a r e k h = ap (told_by f) (passed_on r e h) ∙ refuses b a (code_of e) k (code-some e)
 
 -- else the block is valid
 pub accepts : (b : List ℕ) (r : ℕ) → r ≡ refusal_of b → r ≡ 0 → Valid b
@@ -75,6 +84,12 @@ checks-broken b l f = let e = eq-eqb (length b) block_bytes l in rw (e, f) (numb
 pub keeps : {A : Type 0} {n : ℕ} (a : Answer A) (drawn out : List ℕ) → refused n ≡ a → (refused n ≡ a) × (out ≡ leaves a drawn out)
 unfolding leaves
 keeps a drawn out e = (e, ap (λ (w : Answer _). leaves w drawn out) e)
+
+-- and so does one that leaves by a `?`
+pub refused-keeps : {A V : Type 0} (f : V → A) (b : List ℕ) (a : Answer A) (drawn out : List ℕ) (r : Result V Refusal) (e : Refusal)
+    → code_of e ≡ refusal_of b → IsErrAnd r (λ y. y ≡ e) → (told_by f r ≡ refusing b a) × (out ≡ leaves (refusing b a) drawn out)
+refused-keeps f b a drawn out r e k h =
+    (refused_by f b a r e k h, (keeps (refusing b a) drawn out (refuses b a (code_of e) k (code-some e))).1)
 
 -- an answer leaves what is drawn
 pub draws : {A : Type 0} {v : A} (a : Answer A) (drawn out left : List ℕ) → given v ≡ a → left ≡ drawn → (given v ≡ a) × (left ≡ leaves a drawn out)

@@ -1,18 +1,17 @@
--- The refusals come first; the mode is the unit's.
-use mathlib.Core.Path.{ap, ◌∙◌}
+-- The refusals come first, then the worker answers.
+use mathlib.Core.Path.{refl, ap, ◌∙◌}
 use Rattle.pulses.specs.Answer.{given}
-use Rattle.view.specs.Answers.{number_told}
 use Rattle.view.specs.Looks.{mode_of}
-use Rattle.view.proofs.Refusals.{refuses, accepts, answers}
+use Rattle.view.proofs.Refusals.{refused_by, accepts, answers}
 use Rattle.view.proofs.mask_mode.Goals as goal
 
-pub returns-then-no-ne0 : goal.returns-then-no-ne0
-unfolding number_told mode_of
-returns-then-no-ne0 c = refuses _ _ _ c.refusal-no.ensures c.if-no-ne0.true
+pub returns-in_err-check : goal.returns-in_err-check
+unfolding mode_of
+returns-in_err-check c = refused_by _ _ _ c.from_residual.result c.in_err-check.field-0.0 c.in_err-check.ensures c.from_residual.ensures.1
 
 pub mode-requires : goal.mode-requires
-mode-requires c = accepts _ _ c.refusal-no.ensures c.if-no-ne0.false
+mode-requires c = accepts _ 0 c.in_ok-check.ensures refl
 
 pub returns : goal.returns
-unfolding number_told mode_of
-returns c = ap given (c.wide.ensures.0 ∙ c.mode.ensures) ∙ answers _ _ (accepts _ _ c.refusal-no.ensures c.if-no-ne0.false)
+unfolding mode_of
+returns c = ap given (c.from.ensures ∙ c.mode.ensures) ∙ answers _ _ (accepts _ 0 c.in_ok-check.ensures refl)

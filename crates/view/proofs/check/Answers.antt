@@ -1,9 +1,9 @@
--- The length, and then the number of the rule that is broken, if one is.
+-- The length, and then the rule that is broken, if one is.
 use mathlib.Core.Path.{◌∙◌}
 use borrow.Author.Tests.{eq-eqb, ne_eqb}
 use Rattle.view.specs.Refusal.{refusal_of}
 use Rattle.view.proofs.Refusals.{number-or_none}
-use Rattle.view.proofs.refusal.Goals as goal
+use Rattle.view.proofs.check.Goals as goal
 
 pub returns-then-block-ne-BLOCK : goal.returns-then-block-ne-BLOCK
 unfolding refusal_of
