@@ -18,9 +18,10 @@ use Rattle.log_line.specs.Lines.{meaning_marked}
 use Rattle.log_line.specs.Split.{held_as}
 use Rattle.log_line.specs.Calls.{writes_of, one_screen, line_told, meaning_told, filled, line_answer, line_bytes}
 use Rattle.log_line.proofs.Splitting.{held-long, held-means}
-use borrow.Author.Tests.{le-leb, lt-leb, lt-ltb, le-ltb}
+use borrow.Author.Tests.{le-leb, lt-leb, leb-true, leb-false, lt-ltb, le-ltb}
 use lib.Dec.{leb, ltb}
-use mathlib.Core.Bool.{Bool, true, false}
+use mathlib.Core.Bool.{Bool, true, false, not, ◌&&◌, true≢false}
+use Rattle.bits.proofs.Tests.{and_left, and_right}
 use Rattle.bits.specs.Over.{over}
 use Rattle.log_text.specs.Text.{hex_line, refusal_text, row_line}
 use Rattle.log_text.proofs.Printed.{length-hex_line, length-row_line}
@@ -34,6 +35,10 @@ use Rattle.log_chunks.proofs.Takes.{Fits, fits_line}
 use Rattle.log_chunks.proofs.Keeps.{filled-long}
 use Rattle.log_line.specs.declared.Line.{Line}
 use Rattle.log_line.specs.declared.Line.TheVariants as L
+use Rattle.log_line.specs.declared.lines.Held.TheVariants as H
+use Rattle.refusal.specs.declared.Refusal.{Refusal}
+use Rattle.refusal.specs.Codes.{code_of}
+use Rattle.std.specs.Prelude.{Result, Ok, Err}
 use Rattle.log_chunks.specs.Steps.{Desk, desk, pending, told_of, ran_on, played_to, answer_of, next_line, ended_as, ended, told_by, ToldFits, goes_on, step_room, left, last_lf}
 use Rattle.log_reading.specs.declared.Reading.{Reading}
 use Rattle.log_chunks.specs.declared.Step.{Step}
@@ -109,12 +114,12 @@ module _ (r : Reading) (d : Desk) (at : ℕ) (answer : Step) (block bytes : List
   unfolding ended
   ended-as m e k = rw e (k.answers, (k.blocks, k.holds))
 
-  pub ended-long : r.held.long ≡ true → answer ≡ behind r d at 0 Refused → block ≡ d.block → bytes ≡ d.bytes → Told·Ended
+  pub ended-long : r.held ≡ H.Long → answer ≡ behind r d at 0 Refused → block ≡ d.block → bytes ≡ d.bytes → Told·Ended
   unfolding ended_as
-  ended-long e k b y = ended-as refused (held-long r.held d.line e) (record { answers = k; blocks = b; holds = y })
+  ended-long e k b y = ended-as refused (rw e (held-long d.line)) (record { answers = k; blocks = b; holds = y })
 
-  pub ended-parsed : r.held.long ≡ false → (a : Step) → answer ≡ a → Ends r d at (meaning_of (take r.held.size d.line)) a block bytes → Told·Ended
-  ended-parsed e a k z = ended-as (meaning_of (take r.held.size d.line)) (held-means r.held d.line e) (record { answers = k ∙ z.answers; blocks = z.blocks; holds = z.holds })
+  pub ended-parsed : (n : ℕ) → r.held ≡ H.Bytes n → (a : Step) → answer ≡ a → Ends r d at (meaning_of (take n d.line)) a block bytes → Told·Ended
+  ended-parsed n e a k z = ended-as (meaning_of (take n d.line)) (rw e (held-means n d.line)) (record { answers = k ∙ z.answers; blocks = z.blocks; holds = z.holds })
 
 -- the buffer is long enough for any line
 pub parse-told : (text bytes : List ℕ) → length bytes ≡ capture_bytes → (line_answer text bytes ≡ meaning_told (meaning_of text)) × (line_bytes text bytes ≡ filled (meaning_of text) bytes)
@@ -122,28 +127,28 @@ unfolding line_answer line_bytes
 parse-told text bytes h = let e : leb capture_bytes (length bytes) ≡ true = le-leb capture_bytes (length bytes) (omega arith) in (rw e refl, rw e refl)
 
 -- the answer of `parse`, by its case
-module _ (r : Reading) (d : Desk) (at : ℕ) (short : r.held.long ≡ false) (long : length d.bytes ≡ capture_bytes) (n : ℕ) (same : n ≡ r.held.size) (m : Line) (bytes : List ℕ)
+module _ (r : Reading) (d : Desk) (at : ℕ) (n : ℕ) (short : r.held ≡ H.Bytes n) (long : length d.bytes ≡ capture_bytes) (m : Result Line Refusal) (bytes : List ℕ)
     (told : line_told m ≡ line_answer (take n d.line) d.bytes) (left_in : bytes ≡ line_bytes (take n d.line) d.bytes) (answer : Step) where
   abbrev M : Meaning
-  M = meaning_of (take r.held.size d.line)
+  M = meaning_of (take n d.line)
 
   told_is : line_told m ≡ meaning_told M
-  told_is = told ∙ ap (λ (k : ℕ). line_answer (take k d.line) d.bytes) same ∙ (parse-told (take r.held.size d.line) d.bytes long).0
+  told_is = told ∙ (parse-told (take n d.line) d.bytes long).0
 
   left_is : bytes ≡ filled M d.bytes
-  left_is = left_in ∙ ap (λ (k : ℕ). line_bytes (take k d.line) d.bytes) same ∙ (parse-told (take r.held.size d.line) d.bytes long).1
+  left_is = left_in ∙ (parse-told (take n d.line) d.bytes long).1
 
-  pub parsed-refused : (k : ℕ) → m ≡ L.Refused k → answer ≡ behind r d at 0 Refused → Told·Ended r d at answer d.block bytes
+  pub parsed-refused : (k : Refusal) → m ≡ Err k → answer ≡ behind r d at 0 Refused → Told·Ended r d at answer d.block bytes
   unfolding line_told
-  parsed-refused k e a = ended-parsed r d at answer d.block bytes short (behind r d at 0 Refused) a (ends-refused r d at M k bytes (ap line_told (sym e) ∙ told_is) left_is)
+  parsed-refused k e a = ended-parsed r d at answer d.block bytes n short (behind r d at 0 Refused) a (ends-refused r d at M (code_of k) bytes (ap line_told (sym e) ∙ told_is) left_is)
 
-  pub parsed-writes : (k : ℕ) → m ≡ L.Writes k → answer ≡ behind r d at k Nothing → Told·Ended r d at answer d.block bytes
+  pub parsed-writes : (k : ℕ) → m ≡ Ok (L.Writes k) → answer ≡ behind r d at k Nothing → Told·Ended r d at answer d.block bytes
   unfolding line_told
-  parsed-writes k e a = ended-parsed r d at answer d.block bytes short (behind r d at k Nothing) a (ends-writes r d at M k bytes (ap line_told (sym e) ∙ told_is) left_is)
+  parsed-writes k e a = ended-parsed r d at answer d.block bytes n short (behind r d at k Nothing) a (ends-writes r d at M k bytes (ap line_told (sym e) ∙ told_is) left_is)
 
-  pub parsed-screen : (block : List ℕ) → m ≡ L.Screen → block ≡ save (screened (load d.block) bytes) → answer ≡ behind r d at 0 Nothing → Told·Ended r d at answer block bytes
+  pub parsed-screen : (block : List ℕ) → m ≡ Ok L.Screen → block ≡ save (screened (load d.block) bytes) → answer ≡ behind r d at 0 Nothing → Told·Ended r d at answer block bytes
   unfolding line_told
-  parsed-screen block e h a = ended-parsed r d at answer block bytes short (behind r d at 0 Nothing) a (ends-screen r d at M bytes block (fits_line (take r.held.size d.line)) long (ap line_told (sym e) ∙ told_is) left_is h)
+  parsed-screen block e h a = ended-parsed r d at answer block bytes n short (behind r d at 0 Nothing) a (ends-screen r d at M bytes block (fits_line (take n d.line)) long (ap line_told (sym e) ∙ told_is) left_is h)
 
 -- a screen that a line has is as long as the buffer
 pub bytes_long : (text bytes b : List ℕ) → length b ≡ capture_bytes → bytes ≡ line_bytes text b → length bytes ≡ capture_bytes
@@ -192,17 +197,34 @@ hex-short k command h = omega (arith, length-hex_line (take (16 * k) command), l
 -- ---- whether a fill goes on
 
 module _ (over? : Bool) (written : ℕ) (r : Reading) (at size room : ℕ) where
-  pub stops-refused : over? ≡ true → false ≡ goes_on over? written r at size room
-  unfolding goes_on
-  stops-refused e = rw e
+  abbrev pub unstopped : Bool
+  unstopped = not over? && leb (written + step_room) room
 
-  pub stops-full : over? ≡ false → written ≤ room → room - written < step_room → false ≡ goes_on over? written r at size room
-  unfolding goes_on
-  stops-full e h l = let f : leb (written + step_room) room ≡ false = lt-leb (written + step_room) room (omega arith) in rw (e, f)
+  -- the code's first two tests
+  pub joined-yes : (v : Bool) → written ≤ room → not over? ≡ true → v ≡ leb step_room (room - written) → v ≡ unstopped
+  joined-yes v h n e = go (leb (written + step_room) room) refl
+    where
+      go : (t : Bool) → leb (written + step_room) room ≡ t → v ≡ unstopped
+      go true l = let k : written + step_room ≤ room = leb-true (written + step_room) room l in rw (n, l) (e ∙ le-leb step_room (room - written) (omega arith))
+      go false l = let k : room < written + step_room = leb-false (written + step_room) room l in rw (n, l) (e ∙ lt-leb step_room (room - written) (omega arith))
 
-  pub goes-if : over? ≡ false → written ≤ room → step_room ≤ room - written → (t : Bool) → t ≡ ltb 0 (left r size at) → t ≡ goes_on over? written r at size room
+  pub joined_no : (v : Bool) → not over? ≡ false → v ≡ not over? → v ≡ unstopped
+  joined_no v n e = rw n (e ∙ n)
+
+  pub goes-yes : (v t : Bool) → v ≡ unstopped → v ≡ true → t ≡ ltb 0 (left r size at) → t ≡ goes_on over? written r at size room
   unfolding goes_on
-  goes-if e h l t g = let f : leb (written + step_room) room ≡ true = le-leb (written + step_room) room (omega arith) in rw (e, f) g
+  goes-yes v t j y e =
+      let both : unstopped ≡ true = sym j ∙ y in
+      rw (and_left (not over?) (leb (written + step_room) room) both, and_right (not over?) (leb (written + step_room) room) both) e
+
+  pub goes_no : (v : Bool) → v ≡ unstopped → v ≡ false → v ≡ goes_on over? written r at size room
+  unfolding goes_on
+  goes_no v j n = n ∙ go (not over?) (leb (written + step_room) room) (sym j ∙ n)
+    where
+      go : (a b : Bool) → (a && b) ≡ false → false ≡ (a && (b && ltb 0 (left r size at)))
+      go true true e = sym e ∙ absurd (true≢false e)
+      go true false e = refl
+      go false b e = refl
 
 -- ---- the closing line of `replay`, and a row of `plate`
 

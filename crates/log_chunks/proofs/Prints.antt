@@ -15,7 +15,11 @@ use Rattle.layout.specs.Fresh.{post_boot}
 use Rattle.layout.specs.Sgb.{Sgb}
 use Rattle.layout.proofs.Saved.{clauses, save-load}
 use Rattle.log_line.specs.Lines.{marked_from, meaning_marked}
+use Rattle.log_line.specs.Line.{line_digits}
 use Rattle.log_line.specs.Split.{held_as}
+use Rattle.log_line.specs.declared.lines.Held.{Held}
+use Rattle.log_line.specs.declared.lines.Held.TheVariants as H
+use Rattle.log_reading.specs.Point.{lf_behind}
 use Rattle.log_line.proofs.Marked.{marked-last}
 use Rattle.log_line.proofs.Splitting.{long-not-empty, held-not-empty}
 use Rattle.log_text.specs.Text.{refusal_text}
@@ -44,17 +48,18 @@ tells_on r r₁ r₂ d d₁ d₂ x y z es fs a b = record {
 
 -- ---- a last line that lacks its LF is as one that has it
 
+held-end : (h : Held) (line : List ℕ) → length line ≡ line_digits → marked_from (held_as h line) [] ≡ marked_from (held_as h line) (lf_behind h)
+unfolding lf_behind
+held-end H.Long line f = marked-last (held_as H.Long line) (long-not-empty line)
+held-end (H.Bytes n) line f = go (ltb 0 n) refl
+  where
+    go : (u : Bool) → ltb 0 n ≡ u → marked_from (held_as (H.Bytes n) line) [] ≡ marked_from (held_as (H.Bytes n) line) (cond u (10 ∷ []) [])
+    go true k = marked-last (held_as (H.Bytes n) line) (held-not-empty n line f (ltb-true 0 n k))
+    go false k = refl
+
 marked_end : (r : Reading) (d : Desk) → Fit r d → marked_from (held_as r.held d.line) [] ≡ marked_from (held_as r.held d.line) (last_lf r)
 unfolding last_lf
-marked_end r d f = go r.held.long refl (ltb 0 r.held.size) refl
-  where
-    h : Option (List ℕ)
-    h = held_as r.held d.line
-
-    go : (t : Bool) → r.held.long ≡ t → (u : Bool) → ltb 0 r.held.size ≡ u → marked_from h [] ≡ marked_from h (cond t (10 ∷ []) (cond u (10 ∷ []) []))
-    go true e u k = marked-last h (long-not-empty r.held d.line e)
-    go false e true k = marked-last h (held-not-empty r.held d.line f.line_long (ltb-true 0 r.held.size k))
-    go false e false k = refl
+marked_end r d f = held-end r.held d.line f.line_long
 
 pub last-tells : (r : Reading) (d : Desk) → Fit r d → to_tell r d [] ≡ to_tell r d (last_lf r)
 unfolding to_tell

@@ -10,7 +10,7 @@ use lib.Dec.{ltb}
 use lib.ListN.{length, drop}
 use Rattle.log_line.specs.Line.{line_digits, Meaning, writes, screen, refused}
 use Rattle.log_line.specs.Lines.{meaning_marked}
-use Rattle.log_line.specs.Split.{held_as, taken, took_line, up_to_lf}
+use Rattle.log_line.specs.Split.{held_as, held_size, taken, took_line, up_to_lf}
 use Rattle.log_line.specs.declared.lines.Held.{Held}
 use Rattle.log_line.specs.declared.lines.Taken.{Taken}
 use Rattle.log_line.proofs.Splitting.{took-fits}
@@ -46,7 +46,7 @@ alike (writes ws) r b l y c at = record { answers = refl; blocks = refl; lines =
 alike (screen x) r b l y c at = record { answers = refl; blocks = refl; lines = refl; holds = refl; commands = refl }
 alike refused r b l y c at = record { answers = refl; blocks = refl; lines = refl; holds = refl; commands = refl }
 
-pub taken-fits : (h : Held) (chunk : List ℕ) (at : ℕ) → (taken h chunk at).held.size ≤ line_digits
+pub taken-fits : (h : Held) (chunk : List ℕ) (at : ℕ) → held_size (taken h chunk at).held ≤ line_digits
 unfolding taken
 taken-fits h chunk at = took-fits h (up_to_lf (drop at chunk))
 
@@ -134,14 +134,12 @@ step-told r d chunk at v =
     (λ e. told-took (holding r (taken r.held chunk at).held) (with_line d (took_line r.held (up_to_lf (drop at chunk)) d.line)) chunk (taken r.held chunk at).at (ltb (taken r.held chunk at).at (length chunk)))
 
 -- which step refuses
-pub refused-not : (t : Told) → t ≡ Nothing → false ≡ is_refused t
-unfolding is_refused
-refused-not t e = rw e
-
-pub refused_no : (t : Told) (k : ℕ) → t ≡ Command k → false ≡ is_refused t
-unfolding is_refused
-refused_no t k e = rw e
-
 pub refused_yes : (t : Told) → t ≡ Refused → true ≡ is_refused t
 unfolding is_refused
 refused_yes t e = rw e
+
+pub refused_no : (t : Told) → (t ≡ Refused → ⊥) → false ≡ is_refused t
+unfolding is_refused
+refused_no Nothing e = refl
+refused_no (Command n) e = refl
+refused_no Refused e = absurd (e refl)

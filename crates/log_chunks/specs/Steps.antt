@@ -13,7 +13,7 @@ use Rattle.block_port.specs.Bytes.{handed, packets_told}
 use Rattle.block_writes.specs.Play.{Played, played}
 use Rattle.log_line.specs.Line.{line_digits, Meaning, writes, screen, refused}
 use Rattle.log_line.specs.Lines.{marked_from, meaning_marked}
-use Rattle.log_line.specs.Split.{held_as, nothing, taken, took_line, up_to_lf}
+use Rattle.log_line.specs.Split.{held_as, held_size, nothing, taken, took_line, up_to_lf}
 use Rattle.log_line.specs.Calls.{filled}
 use Rattle.log_line.specs.declared.lines.Held.{Held}
 use Rattle.log_chunks.specs.Events.{Event, completed, refusal, write_events, after_writes, events_from, after_lines}
@@ -196,7 +196,7 @@ pub record Fit (r : Reading) (d : Desk) : Type 0 where
   pub line_long : length d.line ≡ line_digits
   pub bytes_long : length d.bytes ≡ capture_bytes
   pub command_long : store_bytes ≤ length d.command
-  pub held_fits : r.held.size ≤ line_digits
+  pub held_fits : held_size r.held ≤ line_digits
   pub from_fits : r.from ≤ r.upto
   pub upto_fits : r.upto ≤ capture_bytes
   pub number_fits : 1 ≤ r.number

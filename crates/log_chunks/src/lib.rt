@@ -8,6 +8,7 @@ ghost use Rattle.parts.specs.Parts.{capture_bytes, store_bytes};
 ghost use Rattle.layout.specs.Valid.{Valid};
 ghost use Rattle.log_text.specs.Text.{hex_line, row_line};
 ghost use Rattle.log_line.specs.Line.{line_digits};
+ghost use Rattle.log_line.specs.Split.{held_size};
 ghost use Rattle.log_chunks.specs.Steps.{fill, desk, told_of, ran_on, answer_of, ended, stepped, Fit, goes_on, step_room, ToldFits, Said, Full, is_refused, told_by, next_line, most64};
 ghost use Rattle.layout.specs.Block.{load};
 ghost use Rattle.picture.specs.Picture.{row_of};
@@ -54,10 +55,10 @@ pub struct Filled {
 fn told_of(packets: u8) -> Told
     ensures { result ≡ told_of packets }
 {
-    if packets == 0 {
-        return Told::Nothing;
+    match packets {
+        0 => Told::Nothing,
+        n => Told::Command(n),
     }
-    Told::Command(packets)
 }
 
 // The decoded writes, up to the next command.
@@ -68,16 +69,11 @@ fn play_on(reading: Reading, block: &mut [u8], bytes: &[u8], command: &mut [u8],
     ensures block_after { block.new ≡ (ran_on reading (desk block.old [] bytes.now command.old) at).desk.block }
     ensures command_after { command.new ≡ (ran_on reading (desk block.old [] bytes.now command.old) at).desk.command }
 {
-    let from = reading.from;
-    let upto = reading.upto;
-    let p = play(block, &bytes[from..upto], command);
-    let held = reading.held;
+    let p = play(block, &bytes[reading.from..reading.upto], command);
     Step {
         reading: Reading {
-            held: held,
-            number: reading.number,
-            from: from + p.at,
-            upto: upto,
+            from: reading.from + p.at,
+            ..reading
         },
         at: at,
         told: told_of(p.packets),
@@ -89,14 +85,9 @@ fn goes_on(so_far: Filled, size: usize, room: usize) -> bool
     requires { so_far.size ≤ room }
     ensures { result ≡ goes_on so_far.refused so_far.size so_far.reading so_far.at size room }
 {
-    if so_far.refused {
-        return false;
-    }
-    if room - so_far.size < STEP_ROOM {
-        return false;
-    }
-    let reading = so_far.reading;
-    log_reading::is_left(reading, size, so_far.at)
+    !so_far.refused
+        && room - so_far.size >= STEP_ROOM
+        && log_reading::is_left(so_far.reading, size, so_far.at)
 }
 
 // The text of what a step tells, from `at` on. Answers its length.
@@ -107,8 +98,7 @@ fn tell(step: Step, command: &[u8], out: &mut [u8], at: usize) -> usize
     ensures upper_bound { result ≤ step_room }
     ensures out_after { out.new ≡ over at (length (shown (told_by step.told step.reading command.now))) (shown (told_by step.told step.reading command.now)) out.old }
 {
-    let told = step.told;
-    match told {
+    match step.told {
         Told::Nothing => 0,
         Told::Command(n) => tell_command(n, command, out, at),
         Told::Refused => refusal_line(step.reading.number - 1, out, at),
@@ -122,8 +112,7 @@ fn tell_command(n: u8, command: &[u8], out: &mut [u8], at: usize) -> usize
     ensures upper_bound { result ≤ step_room }
     ensures out_after { out.new ≡ over at (length (hex_line (take (16 * n) command.now))) (hex_line (take (16 * n) command.now)) out.old }
 {
-    let end = 16 * bits::wide(n);
-    command_line(&command[0..end], out, at)
+    command_line(&command[..16 * usize::from(n)], out, at)
 }
 
 // The reading behind a line that has ended, with n writes to play.
@@ -133,10 +122,7 @@ fn behind(reading: Reading, at: usize, n: usize, told: Told) -> Step
 {
     Step {
         reading: Reading {
-            held: Held {
-                size: 0,
-                long: false,
-            },
+            held: Held::Bytes(0),
             number: reading.number + 1,
             from: 0,
             upto: n,
@@ -149,21 +135,18 @@ fn behind(reading: Reading, at: usize, n: usize, told: Told) -> Step
 // The line that is held has ended.
 fn end_line(reading: Reading, block: &mut [u8], line: &[u8], bytes: &mut [u8], at: usize) -> Step
     requires valid { Valid block.old × ((length line.now ≡ line_digits) × (length bytes.old ≡ capture_bytes)) }
-    requires size_le_line_digits { (reading.held.size ≤ line_digits) × (reading.number < most64) }
+    requires size_le_line_digits { (held_size reading.held ≤ line_digits) × (reading.number < most64) }
     ensures value { result ≡ answer_of (ended reading (desk block.old line.now bytes.old []) at) }
     ensures block_after { block.new ≡ (ended reading (desk block.old line.now bytes.old []) at).desk.block }
     ensures bytes_after { bytes.new ≡ (ended reading (desk block.old line.now bytes.old []) at).desk.bytes }
 {
-    let held = reading.held;
-    if held.long {
+    let Held::Bytes(size) = reading.held else {
         return behind(reading, at, 0, Told::Refused);
-    }
-    let size = held.size;
-    let m = parse(&line[0..size], bytes);
-    match m {
-        Line::Refused(_) => behind(reading, at, 0, Told::Refused),
-        Line::Writes(n) => behind(reading, at, n, Told::Nothing),
-        Line::Screen => {
+    };
+    match parse(&line[..size], bytes) {
+        Err(_) => behind(reading, at, 0, Told::Refused),
+        Ok(Line::Writes(n)) => behind(reading, at, n, Told::Nothing),
+        Ok(Line::Screen) => {
             show(block, bytes);
             behind(reading, at, 0, Told::Nothing)
         }
@@ -191,14 +174,12 @@ fn take_step(
     if reading.from < reading.upto {
         return play_on(reading, block, bytes, command, at);
     }
-    let held = reading.held;
-    let t = split(held, line, chunk, at);
-    let after = t.held;
+    let t = split(reading.held, line, chunk, at);
     let now = Reading {
-        held: after,
-        number: reading.number,
+        held: t.held,
         from: 0,
         upto: 0,
+        ..reading
     };
     if t.at < chunk.len() {
         return end_line(now, block, line, bytes, t.at + 1);
@@ -225,12 +206,12 @@ fn say(
     requires step_room_in_bounds { (so_far.size + step_room ≤ length out.old) × (length out.old < most64) }
     ensures { Said so_far (desk block.old line.old bytes.old command.old) chunk.now out.old result (desk block.new line.new bytes.new command.new) out.new }
 {
-    let reading = so_far.reading;
-    let s = take_step(reading, block, line, bytes, command, chunk, so_far.at);
+    let s = take_step(
+        so_far.reading, block, line, bytes, command, chunk, so_far.at,
+    );
     let n = tell(s, command, out, so_far.size);
-    let next = s.reading;
     Filled {
-        reading: next,
+        reading: s.reading,
         at: s.at,
         size: so_far.size + n,
         refused: is_refused(s),
@@ -240,12 +221,7 @@ fn say(
 fn is_refused(step: Step) -> bool
     ensures { result ≡ is_refused step.told }
 {
-    let told = step.told;
-    match told {
-        Told::Nothing => false,
-        Told::Command(_) => false,
-        Told::Refused => true,
-    }
+    matches!(step.told, Told::Refused)
 }
 
 // Steps, one after the other, with their texts together at the front of `out`: up to a refused line, while the next text has room, and
@@ -272,8 +248,7 @@ pub fn fill(
         refused: false,
     };
     while goes_on(f, chunk.len(), out.len()) {
-        let g = say(f, block, line, bytes, command, chunk, out);
-        f = g;
+        f = say(f, block, line, bytes, command, chunk, out);
     }
     f
 }
@@ -284,7 +259,7 @@ pub fn head_line(block: &[u8], out: &mut [u8]) -> usize
     ensures value { (result ≡ length (head_line block.now)) × (result ≤ step_room) }
     ensures out_after { out.new ≡ over 0 (length (head_line block.now)) (head_line block.now) out.old }
 {
-    command_line(&block[0..parts::SPARE], out, 0)
+    command_line(&block[..parts::SPARE], out, 0)
 }
 
 // A row of the picture as `plate` prints it, at the front of `out`, from the tables of the block's picture.

@@ -14,6 +14,9 @@ use Rattle.layout.specs.Sgb.{Sgb}
 use Rattle.log_line.specs.Line.{meaning_of, by_bytes, by_kind}
 use Rattle.log_line.specs.Lines.{marked_from, last_marked, meaning_marked}
 use Rattle.log_line.specs.Split.{held_as}
+use Rattle.log_line.specs.declared.lines.Held.{Held}
+use Rattle.log_line.specs.declared.lines.Held.TheVariants as H
+use Rattle.log_reading.specs.Point.{lf_behind}
 use Rattle.log_chunks.specs.Events.{Event, line_events, events_from, write_events, after_writes}
 use Rattle.log_chunks.specs.Steps.{Desk, pending, last_lf, to_tell, to_end, Fit}
 use Rattle.log_reading.specs.declared.Reading.{Reading}
@@ -27,31 +30,39 @@ abbrev newline : List ℕ
 newline = 10 ∷ []
 
 -- the last LF is one byte, or none
+behind-part : (h : Held) (k : ℕ) → k ≡ length (lf_behind h) → take (k - 0) (drop 0 newline) ≡ lf_behind h
+unfolding lf_behind
+behind-part H.Long k e = ap (λ (m : ℕ). take (m - 0) newline) e
+behind-part (H.Bytes n) k e = go (ltb 0 n) k e
+  where
+    go : (u : Bool) (k : ℕ) → k ≡ length (cond u newline []) → take (k - 0) (drop 0 newline) ≡ cond u newline []
+    go true k h = ap (λ (m : ℕ). take (m - 0) newline) h
+    go false k h = ap (λ (m : ℕ). take (m - 0) newline) h
+
 pub last-part : (r : Reading) (k : ℕ) → k ≡ length (last_lf r) → take (k - 0) (drop 0 newline) ≡ last_lf r
 unfolding last_lf
-last-part r k e = go r.held.long (ltb 0 r.held.size) k e
+last-part r k e = behind-part r.held k e
+
+behind-short : (h : Held) → length (lf_behind h) ≤ 1
+unfolding lf_behind
+behind-short H.Long = omega arith
+behind-short (H.Bytes n) = go (ltb 0 n)
   where
-    go : (t u : Bool) (n : ℕ) → n ≡ length (cond t newline (cond u newline [])) → take (n - 0) (drop 0 newline) ≡ cond t newline (cond u newline [])
-    go true u n h = ap (λ (m : ℕ). take (m - 0) newline) h
-    go false true n h = ap (λ (m : ℕ). take (m - 0) newline) h
-    go false false n h = ap (λ (m : ℕ). take (m - 0) newline) h
+    go : (u : Bool) → length (cond u newline []) ≤ 1
+    go true = omega arith
+    go false = omega arith
 
 pub last-short : (r : Reading) → length (last_lf r) ≤ 1
 unfolding last_lf
-last-short r = go r.held.long (ltb 0 r.held.size)
-  where
-    go : (t u : Bool) → length (cond t newline (cond u newline [])) ≤ 1
-    go true u = omega arith
-    go false true = omega arith
-    go false false = omega arith
+last-short r = behind-short r.held
 
 -- ---- nothing is held where no LF is lacking; and an LF behind a line that has ended is an empty line, which is refused
 
-held-empty : (r : Reading) (d : Desk) → r.held.long ≡ false → ltb 0 r.held.size ≡ false → held_as r.held d.line ≡ some []
+held-empty : (n : ℕ) (line : List ℕ) → ltb 0 n ≡ false → held_as (H.Bytes n) line ≡ some []
 unfolding held_as
-held-empty r d e k =
-    let z : r.held.size ≡ 0 = omega (arith, ltb-false 0 r.held.size k) in
-    ap (λ (b : Bool). cond b none (some (take r.held.size d.line))) e ∙ ap (λ (n : ℕ). some (take n d.line)) z
+held-empty n line k =
+    let z : n ≡ 0 = omega (arith, ltb-false 0 n k) in
+    ap (λ (m : ℕ). some (take m line)) z
 
 abbrev told_by : List Event → Sgb → ℕ → Option (List ℕ) → List ℕ → List Event
 told_by w u n h rest = w ++ events_from u n (map meaning_marked (marked_from h rest))
@@ -64,24 +75,31 @@ empty-more : (w : List Event) (u : Sgb) (n : ℕ) → length (told_by w u n (som
 unfolding marked_from last_marked events_from meaning_marked meaning_of bytes_of by_bytes by_kind line_events
 empty-more w u n = simp length-append (omega arith)
 
+behind-more : (w : List Event) (u : Sgb) (n : ℕ) (h : Held) (line : List ℕ)
+    → length (told_by w u n (held_as h line) (lf_behind h ++ newline)) ≡ length (told_by w u n (held_as h line) (lf_behind h)) + 1
+unfolding lf_behind
+behind-more w u n H.Long line = ended-more w u n (held_as H.Long line)
+behind-more w u n (H.Bytes m) line = go (ltb 0 m) refl
+  where
+    go : (v : Bool) → ltb 0 m ≡ v
+        → length (told_by w u n (held_as (H.Bytes m) line) (cond v newline [] ++ newline)) ≡ length (told_by w u n (held_as (H.Bytes m) line) (cond v newline [])) + 1
+    go true k = ended-more w u n (held_as (H.Bytes m) line)
+    go false k =
+        subst⁻¹ (λ (h : Option (List ℕ)). length (told_by w u n h newline) ≡ length (told_by w u n h []) + 1) (held-empty m line k)
+        (empty-more w u n)
+
 lf-more : (r : Reading) (d : Desk) → length (to_tell r d (last_lf r ++ newline)) ≡ length (to_tell r d (last_lf r)) + 1
 unfolding to_tell last_lf
-lf-more r d = go r.held.long (ltb 0 r.held.size) refl refl
+lf-more r d = behind-more (write_events (load d.block) (pending r d.bytes)) (after_writes (load d.block) (pending r d.bytes)) r.number r.held d.line
+
+behind-none : (h : Held) (line : List ℕ) → (lf_behind h ≡ newline → ⊥) → held_as h line ≡ some []
+unfolding lf_behind
+behind-none H.Long line lacks = absurd (lacks refl)
+behind-none (H.Bytes n) line lacks = go (ltb 0 n) refl lacks
   where
-    w : List Event
-    w = write_events (load d.block) (pending r d.bytes)
-
-    u : Sgb
-    u = after_writes (load d.block) (pending r d.bytes)
-
-    go : (t v : Bool) → r.held.long ≡ t → ltb 0 r.held.size ≡ v
-        → length (told_by w u r.number (held_as r.held d.line) (cond t newline (cond v newline []) ++ newline))
-        ≡ length (told_by w u r.number (held_as r.held d.line) (cond t newline (cond v newline []))) + 1
-    go true v e k = ended-more w u r.number (held_as r.held d.line)
-    go false true e k = ended-more w u r.number (held_as r.held d.line)
-    go false false e k =
-        subst⁻¹ (λ (h : Option (List ℕ)). length (told_by w u r.number h newline) ≡ length (told_by w u r.number h []) + 1) (held-empty r d e k)
-        (empty-more w u r.number)
+    go : (v : Bool) → ltb 0 n ≡ v → (cond v newline [] ≡ newline → ⊥) → held_as (H.Bytes n) line ≡ some []
+    go true k no = absurd (no refl)
+    go false k no = held-empty n line k
 
 -- so where a reading took the last LF, nothing is held
 module _ (r : Reading) (d : Desk) (es : List Event) (r' : Reading) (d' : Desk) (fit : Fit r' d') (tells : (rest : List ℕ) → to_tell r d (last_lf r ++ rest) ≡ es ++ to_tell r' d' rest) where
@@ -92,12 +110,7 @@ module _ (r : Reading) (d : Desk) (es : List Event) (r' : Reading) (d' : Desk) (
 
   pub none-held : held_as r'.held d'.line ≡ some []
   unfolding last_lf
-  none-held = go r'.held.long (ltb 0 r'.held.size) refl refl none-lacks
-    where
-      go : (t v : Bool) → r'.held.long ≡ t → ltb 0 r'.held.size ≡ v → (cond r'.held.long newline (cond (ltb 0 r'.held.size) newline []) ≡ newline → ⊥) → held_as r'.held d'.line ≡ some []
-      go true v e k lacks = absurd (lacks (ap (λ (b : Bool). cond b newline (cond (ltb 0 r'.held.size) newline [])) e))
-      go false true e k lacks = absurd (lacks (ap (λ (b : Bool). cond b newline (cond (ltb 0 r'.held.size) newline [])) e ∙ ap (λ (b : Bool). cond b newline []) k))
-      go false false e k lacks = held-empty r' d' e k
+  none-held = behind-none r'.held d'.line none-lacks
 
 -- ---- the outcome of the last LF is that of an input that has ended
 

@@ -15,8 +15,8 @@ loop-block-init c =
 pub goes_on-requires : goal.goes_on-requires
 goes_on-requires c = omega (arith, c.loop-block.invariant.0.size_fits, c.loop-block.invariant.1.1.1.1.1)
 
-pub say-g-requires : goal.say-g-requires
-say-g-requires c =
+pub say-f-requires : goal.say-f-requires
+say-f-requires c =
     let start = c in
     let a = c.loop-block in
     let t = a.invariant.0 in
@@ -27,13 +27,13 @@ pub loop-block-smaller : goal.loop-block-smaller
 loop-block-smaller c =
     let start = c in
     let a = c.loop-block in
-    less start.args.start (desk start.args.block.now start.args.line.now start.args.bytes.now start.args.command.now) start.args.chunk.now start.args.from start.args.out.now a.f (desk a.block a.line a.bytes a.command) a.out a.invariant.0 (ap (goes_on a.f.refused a.f.size a.f.reading a.f.at (length start.args.chunk.now)) (sym a.invariant.1.1.1.1.1) ∙ sym c.goes_on.ensures ∙ c.loop-block-test.true) c.say-g.result _ _ c.say-g.ensures
+    less start.args.start (desk start.args.block.now start.args.line.now start.args.bytes.now start.args.command.now) start.args.chunk.now start.args.from start.args.out.now a.f (desk a.block a.line a.bytes a.command) a.out a.invariant.0 (ap (goes_on a.f.refused a.f.size a.f.reading a.f.at (length start.args.chunk.now)) (sym a.invariant.1.1.1.1.1) ∙ sym c.goes_on.ensures ∙ c.loop-block-test.true) c.say-f.result _ _ c.say-f.ensures
 
 pub loop-block-preserved : goal.loop-block-preserved
 loop-block-preserved c =
     let start = c in
     let a = c.loop-block in
-    let s = c.say-g in
+    let s = c.say-f in
     let l = a.invariant.1 in (
       turns start.args.start (desk start.args.block.now start.args.line.now start.args.bytes.now start.args.command.now) start.args.chunk.now start.args.from start.args.out.now a.f (desk a.block a.line a.bytes a.command) a.out a.invariant.0 (ap (goes_on a.f.refused a.f.size a.f.reading a.f.at (length start.args.chunk.now)) (sym a.invariant.1.1.1.1.1) ∙ sym c.goes_on.ensures ∙ c.loop-block-test.true) s.result _ _ s.ensures l.1.1.1.1,
       (s.auto.block ∙ l.0, (s.auto.line ∙ l.1.0, (s.auto.bytes ∙ l.1.1.0, (s.auto.command ∙ l.1.1.1.0, s.auto.out ∙ l.1.1.1.1)))),

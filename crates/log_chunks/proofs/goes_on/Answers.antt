@@ -1,12 +1,25 @@
 -- By the three tests.
-use Rattle.log_chunks.proofs.Coded.{stops-refused, stops-full, goes-if}
+use mathlib.Core.Path.{◌≡◌}
+use Rattle.log_chunks.proofs.Coded.{unstopped, joined-yes, joined_no, goes-yes, goes_no}
 use Rattle.log_chunks.proofs.goes_on.Goals as goal
+use Rattle.log_chunks.proofs.goes_on.Goals.{then-not-so_far, else-not-so_far}
 
-pub returns-then-so_far : goal.returns-then-so_far
-returns-then-so_far c = stops-refused c.args.so_far.refused c.args.so_far.size c.args.so_far.reading c.args.so_far.at c.args.size c.args.room c.if-so_far.true
+pub returns-then-room-so_far-ge-STEP_ROOM : goal.returns-then-room-so_far-ge-STEP_ROOM
+returns-then-room-so_far-ge-STEP_ROOM c =
+    let f = c.args.so_far in
+    let both : c.if-not-so_far.value ≡ unstopped f.refused f.size f.reading f.at c.args.size c.args.room =
+    elim c.if-not-so_far.branch [
+      then-not-so_far w ↦ joined-yes f.refused f.size f.reading f.at c.args.size c.args.room _ c.requires w.if-not-so_far.true w.value-is
+      | else-not-so_far w ↦ joined_no f.refused f.size f.reading f.at c.args.size c.args.room _ w.if-not-so_far.false w.value-is
+    ] in
+    goes-yes f.refused f.size f.reading f.at c.args.size c.args.room _ _ both c.if-room-so_far-ge-STEP_ROOM.true c.is_left.ensures
 
-pub returns-then-room-so_far-lt-STEP_ROOM : goal.returns-then-room-so_far-lt-STEP_ROOM
-returns-then-room-so_far-lt-STEP_ROOM c = stops-full c.args.so_far.refused c.args.so_far.size c.args.so_far.reading c.args.so_far.at c.args.size c.args.room c.if-so_far.false c.requires c.if-room-so_far-lt-STEP_ROOM.true
-
-pub returns : goal.returns
-returns c = goes-if c.args.so_far.refused c.args.so_far.size c.args.so_far.reading c.args.so_far.at c.args.size c.args.room c.if-so_far.false c.requires c.if-room-so_far-lt-STEP_ROOM.false _ c.is_left.ensures
+pub returns-else-room-so_far-ge-STEP_ROOM : goal.returns-else-room-so_far-ge-STEP_ROOM
+returns-else-room-so_far-ge-STEP_ROOM c =
+    let f = c.args.so_far in
+    let both : c.if-not-so_far.value ≡ unstopped f.refused f.size f.reading f.at c.args.size c.args.room =
+    elim c.if-not-so_far.branch [
+      then-not-so_far w ↦ joined-yes f.refused f.size f.reading f.at c.args.size c.args.room _ c.requires w.if-not-so_far.true w.value-is
+      | else-not-so_far w ↦ joined_no f.refused f.size f.reading f.at c.args.size c.args.room _ w.if-not-so_far.false w.value-is
+    ] in
+    goes_no f.refused f.size f.reading f.at c.args.size c.args.room _ both c.if-room-so_far-ge-STEP_ROOM.false

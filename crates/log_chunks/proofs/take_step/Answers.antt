@@ -3,6 +3,7 @@ use mathlib.Core.Path.{refl, ap, ◌∙◌, subst⁻¹}
 use Prim.Native.Nat.{◌≤◌}
 use lib.ListN.{length}
 use Rattle.log_line.specs.Line.{line_digits}
+use Rattle.log_line.specs.Split.{held_size}
 use Rattle.log_line.specs.declared.lines.Taken.{Taken}
 use Rattle.log_line.proofs.Splitting.{length-took}
 use native.Mathlib.Omega.{arith}
@@ -23,7 +24,7 @@ end_line-requires c =
     let start = c in
     let t = c.split-t in
     let f = start.requires.fit in
-    record { valid = (f.valid, (ap length t.ensures.line_after ∙ length-took start.args.reading.held start.args.line.now f.held_fits f.line_long _, f.bytes_long)); size_le_line_digits = (subst⁻¹ (λ (k : Taken). k.held.size ≤ line_digits) t.ensures.value (taken-fits start.args.reading.held start.args.chunk.now start.args.at), start.requires.number_lt_most64.0) }
+    record { valid = (f.valid, (ap length t.ensures.line_after ∙ length-took start.args.reading.held start.args.line.now f.held_fits f.line_long _, f.bytes_long)); size_le_line_digits = (subst⁻¹ (λ (k : Taken). held_size k.held ≤ line_digits) t.ensures.value (taken-fits start.args.reading.held start.args.chunk.now start.args.at), start.requires.number_lt_most64.0) }
 
 pub returns-then-t-chunk : goal.returns-then-t-chunk
 returns-then-t-chunk c =
