@@ -98,8 +98,8 @@ behind-none H.Long line lacks = absurd (lacks refl)
 behind-none (H.Bytes n) line lacks = go (ltb 0 n) refl lacks
   where
     go : (v : Bool) → ltb 0 n ≡ v → (cond v newline [] ≡ newline → ⊥) → held_as (H.Bytes n) line ≡ some []
-    go true k no = absurd (no refl)
-    go false k no = held-empty n line k
+    go true k l = absurd (l refl)
+    go false k l = held-empty n line k
 
 -- so where a reading took the last LF, nothing is held
 module _ (r : Reading) (d : Desk) (es : List Event) (r' : Reading) (d' : Desk) (fit : Fit r' d') (tells : (rest : List ℕ) → to_tell r d (last_lf r ++ rest) ≡ es ++ to_tell r' d' rest) where
