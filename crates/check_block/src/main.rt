@@ -7,11 +7,7 @@ use log_writer::Streams;
 use std::process::ExitCode;
 
 fn main(rt: HostRuntime) -> ExitCode {
-    let streams = Streams {
-        input: rt.stdin(),
-        output: rt.stdout(),
-        words: rt.stderr(),
-    };
+    let streams = Streams::of(&rt);
     let mut tally: u64 = 0;
     let mut saved = [0u8; check_saved::SAVED_BYTES];
     let mut line = [0u8; check_saved::LINE_BYTES];

@@ -2,7 +2,7 @@
 // RULES 8.7. The verdict is that of `view::refusal`, the writing is in `log_writer`; here are the calls of `read`.
 #![tactic(auto)]
 
-ghost use Rattle.std.specs.Prelude.{◌≡◌, ◌+◌, ◌≤◌, length, take};
+ghost use Rattle.std.specs.Prelude.{◌≡◌, ◌+◌, ◌≤◌, length, take, is_ok};
 ghost use Rattle.bits.specs.Over.{over};
 ghost use Rattle.log_writer.specs.Tally.{Sent};
 ghost use Rattle.check_saved.specs.Verdict.{placed, number_line, placed_line, verdict_line, check_text};
@@ -10,7 +10,7 @@ ghost use Rattle.check_saved.specs.Checked.{saved_bytes, line_bytes, Came, Told}
 
 use bits::put;
 use log_text::decimal;
-use log_writer::{Streams, fail};
+use log_writer::{Failed, Streams, fail, write_out};
 use refusal::Refusal;
 use std::io::Read as _;
 
@@ -56,7 +56,7 @@ pub fn check(streams: Streams, tally: &mut u64, saved: &mut [u8], out: &mut [u8]
     ensures told { Told result.end result.whole (take result.got saved.new) tally.old tally.new }
 {
     let read = read_saved(streams, saved);
-    let whole = print(read, streams, tally, saved, out);
+    let whole = print(read, streams, tally, saved, out).is_ok();
     let end = read.end;
     Checked {
         got: read.got,
@@ -115,26 +115,32 @@ fn read_more(streams: Streams, saved: &mut [u8], got: usize) -> More
 }
 
 // By how reading ended.
-fn print(read: Saved, streams: Streams, tally: &mut u64, saved: &[u8], out: &mut [u8]) -> bool
+fn print(
+    read: Saved,
+    streams: Streams,
+    tally: &mut u64,
+    saved: &[u8],
+    out: &mut [u8],
+) -> Result<(), Failed>
     requires came { Came read.got read.end saved.now }
     requires saved_len { (length saved.now ≡ saved_bytes) × (length out.old ≡ line_bytes) }
-    ensures { Told read.end result (take read.got saved.now) tally.old tally.new }
+    ensures { Told read.end (is_ok result) (take read.got saved.now) tally.old tally.new }
 {
     let end = read.end;
     let got = read.got;
     match end {
         End::Ended => verdict(streams, tally, &saved[0..got], out),
         End::Full => verdict(streams, tally, &saved[0..got], out),
-        End::Failed => false,
+        End::Failed => Err(Failed),
     }
 }
 
-fn verdict(streams: Streams, tally: &mut u64, came: &[u8], out: &mut [u8]) -> bool
+fn verdict(streams: Streams, tally: &mut u64, came: &[u8], out: &mut [u8]) -> Result<(), Failed>
     requires { length out.old ≡ line_bytes }
-    ensures { Sent result tally.old (check_text came.now) tally.new }
+    ensures { Sent (is_ok result) tally.old (check_text came.now) tally.new }
 {
     let n = verdict_line(view::refusal(came), out);
-    log_writer::write_out(streams, tally, &out[0..n])
+    write_out(streams, tally, &out[0..n])
 }
 
 // The line of a refusal at the front of the output. Answers its length.

@@ -1,7 +1,7 @@
 -- A quiet reading and what is printed behind it are what `plate` prints.
 use mathlib.Core.Path.{◌≡◌, refl, sym, ap, ◌∙◌, subst, subst⁻¹}
 use mathlib.Core.Bool.{Bool, true, false}
-use mathlib.Core.List.{List, [], ◌++◌}
+use mathlib.Core.List.{List, []}
 use Prim.Native.Nat.{ℕ, ◌-◌}
 use lib.Seq.{take-nil}
 use Rattle.layout.specs.Block.{load}
@@ -9,7 +9,7 @@ use Rattle.log_text.specs.Text.{refusal_text}
 use Rattle.log_writer.specs.Tally.{tallied, Sent}
 use Rattle.log_chunks.specs.Texts.{picture_lines, plate_text}
 use Rattle.log_reading.specs.declared.Reading.{Reading}
-use Rattle.log_reader.specs.Read.{Behind, text_of, ReadWhole, Reached, Printed}
+use Rattle.log_reader.specs.Read.{text_of, Reached, Printed}
 use Rattle.log_writer.specs.declared.State.{State}
 use Rattle.log_writer.specs.declared.State.TheVariants.{Well, Failed, Refused}
 use Rattle.log_reader.proofs.Programs.{behind_all, behind_none, sent_printed, none_printed}

@@ -1,6 +1,6 @@
 -- Rows one after the other: what is left from row y on, behind what went out.
-use mathlib.Core.Path.{◌≡◌, refl, sym, ap, ◌∙◌, subst, subst⁻¹}
-use mathlib.Core.Bool.{Bool, true, false}
+use mathlib.Core.Path.{◌≡◌, refl, sym, ap, ◌∙◌, subst⁻¹}
+use mathlib.Core.Bool.{true, false}
 use mathlib.Core.List.{List, [], ◌++◌, append_assoc, append-nil}
 use Prim.Native.Nat.{ℕ, suc, ◌+◌, ◌-◌, ◌≤◌, ◌<◌}
 use native.Mathlib.Omega.{arith}
@@ -46,18 +46,18 @@ module _ (b : List ℕ) (t : ℕ) where
     onward : picture_lines (load b) ≡ k.done ++ (row y ++ left (y + 1))
     onward = k.all ∙ ap (λ (l : List ℕ). k.done ++ l) (left-next y more)
 
-    pub rows_next : (v : ℕ) (sent : Bool) → sent ≡ true → Sent sent u text v → Rows v (y + 1)
-    rows_next v sent e s = record {
+    pub rows_next : (v : ℕ) → Sent true u text v → Rows v (y + 1)
+    rows_next v s = record {
       done = k.done ++ row y;
       all = onward ∙ sym (append_assoc k.done (row y) (left (y + 1)));
-      tally-is = sent-more t u k.done k.tally-is text v (subst (λ (x : Bool). Sent x u text v) e s) ∙ ap (λ (l : List ℕ). tallied t (k.done ++ l)) text-row;
+      tally-is = sent-more t u k.done k.tally-is text v s ∙ ap (λ (l : List ℕ). tallied t (k.done ++ l)) text-row;
       within = omega arith;
     }
 
-    pub rows_cut : (v : ℕ) (sent : Bool) → sent ≡ false → Sent sent u text v → Sent false t (picture_lines (load b)) v
-    rows_cut v sent e s =
+    pub rows_cut : (v : ℕ) → Sent false u text v → Sent false t (picture_lines (load b)) v
+    rows_cut v s =
         subst⁻¹ (λ (l : List ℕ). Sent false t l v) (onward ∙ ap (λ (l : List ℕ). k.done ++ (l ++ left (y + 1))) (sym text-row))
-        (sent-cut t u k.done k.tally-is text (left (y + 1)) v (subst (λ (x : Bool). Sent x u text v) e s))
+        (sent-cut t u k.done k.tally-is text (left (y + 1)) v s)
 
   pub rows_all : (u y : ℕ) → Rows u y → 224 ≤ y → Sent true t (picture_lines (load b)) u
   unfolding Sent

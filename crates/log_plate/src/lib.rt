@@ -2,7 +2,7 @@
 // The reading is in `log_reader`, the writing in `log_writer`.
 #![tactic(auto)]
 
-ghost use Rattle.std.specs.Prelude.{List, ◌≡◌, ℕ, ◌-◌, ◌≤◌, length};
+ghost use Rattle.std.specs.Prelude.{List, ◌≡◌, ℕ, ◌-◌, ◌≤◌, length, is_ok};
 ghost use Rattle.layout.specs.Valid.{Valid};
 ghost use Rattle.layout.specs.Block.{load};
 ghost use Rattle.picture.specs.Tables.{TablesOf};
@@ -16,7 +16,7 @@ ghost use Rattle.log_reader.specs.Read.{Printed};
 ghost use Rattle.log_plate.specs.Closed.{Closed};
 
 use log_reader::{Print, Read};
-use log_writer::{State, Streams};
+use log_writer::{Failed, State, Streams, write_out};
 
 pub fn plate(
     streams: Streams,
@@ -35,7 +35,7 @@ pub fn plate(
     let f = log_reader::read_log(
         streams, tally, block, line, bytes, command, out, chunk, true,
     );
-    let whole = print(f, streams, tally, block, out);
+    let whole = print(f, streams, tally, block, out).is_ok();
     Print {
         got: f.got,
         ended: f.ended,
@@ -44,31 +44,36 @@ pub fn plate(
 }
 
 // The picture where the log has ended, or the line that was refused.
-fn print(read: Read, streams: Streams, tally: &mut u64, block: &[u8], out: &mut [u8]) -> bool
+fn print(
+    read: Read,
+    streams: Streams,
+    tally: &mut u64,
+    block: &[u8],
+    out: &mut [u8],
+) -> Result<(), Failed>
     requires valid { Valid block.now × (1 ≤ read.reading.number) }
     requires out_len { length out.old ≡ out_bytes }
-    ensures { Closed read.state read.reading block.now result tally.old tally.new }
+    ensures { Closed read.state read.reading block.now (is_ok result) tally.old tally.new }
 {
-    let state = read.state;
-    match state {
+    match read.state {
         State::Well => picture(streams, tally, block, out),
-        State::Failed => false,
+        State::Failed => Err(Failed),
         State::Refused => refusal(streams, tally, read.reading.number - 1, out),
     }
 }
 
-fn refusal(streams: Streams, tally: &mut u64, number: u64, out: &mut [u8]) -> bool
+fn refusal(streams: Streams, tally: &mut u64, number: u64, out: &mut [u8]) -> Result<(), Failed>
     requires { length out.old ≡ out_bytes }
-    ensures { Sent result tally.old (refusal_text number) tally.new }
+    ensures { Sent (is_ok result) tally.old (refusal_text number) tally.new }
 {
     let n = log_text::refusal_line(number, out, 0);
-    log_writer::write_out(streams, tally, &out[0..n])
+    write_out(streams, tally, &out[0..n])
 }
 
-fn picture(streams: Streams, tally: &mut u64, block: &[u8], out: &mut [u8]) -> bool
+fn picture(streams: Streams, tally: &mut u64, block: &[u8], out: &mut [u8]) -> Result<(), Failed>
     requires valid { Valid block.now }
     requires out_len { length out.old ≡ out_bytes }
-    ensures { Sent result tally.old (picture_lines (load block.now)) tally.new }
+    ensures { Sent (is_ok result) tally.old (picture_lines (load block.now)) tally.new }
 {
     let mut spreads = [0u32; 512];
     let mut border = [0u16; 48];
@@ -89,19 +94,15 @@ fn rows(
     game: &[u16],
     words: &mut [u16],
     out: &mut [u8],
-) -> bool
+) -> Result<(), Failed>
     requires valid { Valid block.now }
     requires tables_of { TablesOf (parts_of (load block.now)) spreads.now border.now game.now }
     requires words_len { (length words.old ≡ 256) × (length out.old ≡ out_bytes) }
-    ensures { Sent result tally.old (picture_lines (load block.now)) tally.new }
+    ensures { Sent (is_ok result) tally.old (picture_lines (load block.now)) tally.new }
 {
-    let mut y: usize = 0;
-    while y < 224 {
+    for y in 0..224 {
         log_chunks::row_line(block, spreads, border, game, y, words, out);
-        if !log_writer::write_out(streams, tally, &out[0..1025]) {
-            return false;
-        }
-        y += 1;
+        write_out(streams, tally, &out[0..1025])?;
     }
-    true
+    Ok(())
 }

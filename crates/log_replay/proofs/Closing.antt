@@ -1,12 +1,10 @@
 -- A reading and the closing line behind it are what `replay` prints.
-use mathlib.Core.Path.{◌≡◌, sym, ap, ap₂, ◌∙◌, subst, subst⁻¹}
+use mathlib.Core.Path.{◌≡◌, sym, ap, ◌∙◌}
 use mathlib.Core.Bool.{Bool, true, false, false≢true}
 use mathlib.Core.List.{List, ◌++◌}
 use Prim.Native.Nat.{ℕ}
-use lib.ListN.{take}
 use lib.Seq.{take-append-le}
-use Rattle.layout.specs.Block.{load, save}
-use Rattle.layout.specs.Sgb.{Sgb}
+use Rattle.layout.specs.Block.{save}
 use Rattle.layout.specs.Valid.{Valid}
 use Rattle.layout.proofs.Saved.{clauses, save-load}
 use Rattle.log_writer.specs.Tally.{tallied, Sent}
@@ -14,7 +12,7 @@ use Rattle.log_writer.proofs.Tallies.{sent-last}
 use Rattle.log_chunks.specs.Events.{events_of, unit_after}
 use Rattle.log_chunks.specs.Texts.{shown, head_line, replay_text}
 use Rattle.log_reading.specs.declared.Reading.{Reading}
-use Rattle.log_reader.specs.Read.{Behind, text_of, is_well, Reached, Printed}
+use Rattle.log_reader.specs.Read.{text_of, is_well, Reached, Printed}
 use Rattle.log_writer.specs.declared.State.{State}
 use Rattle.log_writer.specs.declared.State.TheVariants.{Well, Failed, Refused}
 use Rattle.log_reader.proofs.Programs.{behind_all, sent_printed}

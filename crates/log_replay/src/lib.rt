@@ -2,7 +2,7 @@
 // The reading is in `log_reader`, the writing in `log_writer`.
 #![tactic(auto)]
 
-ghost use Rattle.std.specs.Prelude.{List, ◌≡◌, ℕ, length};
+ghost use Rattle.std.specs.Prelude.{List, ◌≡◌, ℕ, length, is_ok};
 ghost use Rattle.layout.specs.Valid.{Valid};
 ghost use Rattle.log_chunks.specs.Steps.{desk};
 ghost use Rattle.log_chunks.specs.Texts.{head_line, replay_text};
@@ -11,7 +11,7 @@ ghost use Rattle.log_reader.specs.Fed.{LentSizes, chunk_bytes, out_bytes};
 ghost use Rattle.log_reader.specs.Read.{Printed};
 
 use log_reader::Print;
-use log_writer::Streams;
+use log_writer::{Failed, Streams};
 
 pub fn replay(
     streams: Streams,
@@ -37,7 +37,7 @@ pub fn replay(
             whole: false,
         };
     }
-    let whole = head(streams, tally, block, out);
+    let whole = head(streams, tally, block, out).is_ok();
     Print {
         got: f.got,
         ended: f.ended,
@@ -46,9 +46,9 @@ pub fn replay(
 }
 
 // The block's first 13 bytes.
-fn head(streams: Streams, tally: &mut u64, block: &[u8], out: &mut [u8]) -> bool
+fn head(streams: Streams, tally: &mut u64, block: &[u8], out: &mut [u8]) -> Result<(), Failed>
     requires { Valid block.now × (length out.old ≡ out_bytes) }
-    ensures { Sent result tally.old (head_line block.now) tally.new }
+    ensures { Sent (is_ok result) tally.old (head_line block.now) tally.new }
 {
     let n = log_chunks::head_line(block, out);
     log_writer::write_out(streams, tally, &out[0..n])

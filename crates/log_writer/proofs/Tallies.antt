@@ -37,7 +37,12 @@ module _ (t t₁ : ℕ) (text : List ℕ) (done : ℕ) (so_far : t₁ ≡ tallie
   unfolding Sent
   sent_all h = so_far ∙ ap (tallied t) (take_all done text h)
 
-  -- and where nothing more is taken
+  -- where a write fails, which takes nothing
+  pub sent-none : (t₂ : ℕ) → done < length text → t₂ ≡ t₁ → Sent false t text t₂
+  unfolding Sent
+  sent-none t₂ more e = (done, (more, e ∙ so_far))
+
+  -- and where it takes nothing
   pub sent-some : (t₂ n : ℕ) → n ≡ 0 → n ≤ length rest → done < length text → t₂ ≡ tallied t₁ (take n rest) → Sent false t text t₂
   unfolding Sent
   sent-some t₂ n z h more e = (done + n, (omega (arith, z), tallied-more t₂ n h e))

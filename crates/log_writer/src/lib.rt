@@ -3,13 +3,13 @@
 // the code carries.
 #![tactic(auto)]
 
-ghost use Rattle.std.specs.Prelude.{◌≡◌, ◌≤◌, length, take};
+ghost use Rattle.std.specs.Prelude.{◌≡◌, ◌≤◌, length, take, is_ok, IfOk, OnErr};
 ghost use Rattle.log_writer.specs.Tally.{tallied, Sent};
 ghost use Rattle.log_writer.specs.Told.{ToldAs};
 
 use std::io;
 use std::io::{ErrorKind, Stderr, Stdin, Stdout};
-use std::num::wrapping_add_u64;
+use std::process::ExitCode;
 
 // The standard streams, which `main` hands down.
 #[derive(Clone, Copy)]
@@ -19,9 +19,32 @@ pub struct Streams {
     pub words: Stderr,
 }
 
+impl Streams {
+    // A bound on the runtime would not do: std's traits have no call that hands out a stream.
+    pub fn of(rt: &HostRuntime) -> Streams {
+        Streams {
+            input: rt.stdin(),
+            output: rt.stdout(),
+            words: rt.stderr(),
+        }
+    }
+}
+
+// A read or a write failed, which has been said.
+#[derive(Clone, Copy, Debug, PartialEq, Eq)]
+pub struct Failed;
+
+// The exit status of a program.
+pub fn status(sent: Result<(), Failed>) -> ExitCode {
+    match sent {
+        Ok(()) => ExitCode::SUCCESS,
+        Err(Failed) => ExitCode::FAILURE,
+    }
+}
+
 // All that came is told; a read or a write failed, which has been said; a quiet reading came to a refused line, the one before the
 // reading's next.
-#[derive(Clone, Copy)]
+#[derive(Clone, Copy, Debug, PartialEq, Eq)]
 pub enum State {
     Well,
     Failed,
@@ -33,77 +56,60 @@ pub fn told(streams: Streams, tally: &mut u64, text: &[u8], refused: bool, quiet
     ensures { ToldAs quiet refused tally.old text.now result tally.new }
 {
     if quiet {
-        if refused {
-            return State::Refused;
-        }
-        return State::Well;
+        return if refused { State::Refused } else { State::Well };
     }
-    if write_out(streams, tally, text) {
-        State::Well
-    } else {
-        State::Failed
+    match write_out(streams, tally, text) {
+        Ok(()) => State::Well,
+        Err(Failed) => State::Failed,
     }
 }
 
-// Writes all of a text, or as much as can be, and then says that it could not. Answers whether it was all.
-pub fn write_out(streams: Streams, tally: &mut u64, text: &[u8]) -> bool
-    ensures { Sent result tally.old text.now tally.new }
+// Writes all of a text, or as much as can be, and then says that it could not.
+pub fn write_out(streams: Streams, tally: &mut u64, text: &[u8]) -> Result<(), Failed>
+    ensures { Sent (is_ok result) tally.old text.now tally.new }
 {
-    let mut why = io::Error::from(ErrorKind::WriteZero);
-    let whole = hand_over(streams.output, tally, text, &mut why);
-    if !whole {
-        fail(streams, "write", why);
-    }
-    whole
+    let sent = hand_over(streams.output, tally, text);
+    sent.map_err(|why| fail(streams, "write", why))
 }
 
 // By its own loop: std's `write_all` does not tell how much of a text went out before a write failed.
-fn hand_over(output: Stdout, tally: &mut u64, text: &[u8], why: &mut io::Error) -> bool
-    ensures { Sent result tally.old text.now tally.new }
+fn hand_over(output: Stdout, tally: &mut u64, text: &[u8]) -> io::Result<()>
+    ensures { Sent (is_ok result) tally.old text.now tally.new }
 {
     let mut done: usize = 0;
     while done < text.len() {
-        let n = put(output, tally, &text[done..], why);
+        let n = put(output, tally, &text[done..])?;
         if n == 0 {
-            return false;
+            return Err(io::Error::from(ErrorKind::WriteZero));
         }
         done += n;
     }
-    true
+    Ok(())
 }
 
 // One call of `write`, the only one to standard output: the tally goes on by the bytes that it took. That these are the bytes that it
-// was handed is read off these lines. Where it fails it took none, and `why` is its error.
-fn put(output: Stdout, tally: &mut u64, text: &[u8], why: &mut io::Error) -> usize
-    ensures { (result ≤ length text.now) × (tally.new ≡ tallied tally.old (take result text.now)) }
+// was handed is read off these lines. Where it fails it took none.
+fn put(output: Stdout, tally: &mut u64, text: &[u8]) -> io::Result<usize>
+    ensures ok { IfOk result (λ n. (n ≤ length text.now) × (tally.new ≡ tallied tally.old (take n text.now))) }
+    ensures err { OnErr result (tally.new ≡ tally.old) }
 {
-    let n = match output.write_some(text) {
-        Ok(n) => n,
-        Err(e) => {
-            *why = e;
-            0
-        }
-    };
-    let before = *tally;
-    let after = weigh(before, &text[..n]);
-    *tally = after;
-    n
+    let n = output.write_some(text)?;
+    *tally = weigh(*tally, &text[..n]);
+    Ok(n)
 }
 
 // Says which call failed, and why. Where that can't be written either nothing more is said, and the exit status still tells.
-pub fn fail(streams: Streams, call: &str, why: io::Error) {
+pub fn fail(streams: Streams, call: &str, why: io::Error) -> Failed {
     let _ = eprintln!(streams.words; "{call}: {why}");
+    Failed
 }
 
 fn weigh(start: u64, text: &[u8]) -> u64
     ensures { result ≡ tallied start text.now }
 {
     let mut tally = start;
-    let mut i: usize = 0;
-    while i < text.len() {
-        let b = bits::wide(text[i]);
-        tally = wrapping_add_u64(tally, 4294967296 + b as u64);
-        i += 1;
+    for b in text {
+        tally = tally.wrapping_add(4294967296 + u64::from(*b));
     }
     tally
 }

@@ -7,11 +7,7 @@ use log_writer::Streams;
 use std::process::ExitCode;
 
 fn main(rt: HostRuntime) -> ExitCode {
-    let streams = Streams {
-        input: rt.stdin(),
-        output: rt.stdout(),
-        words: rt.stderr(),
-    };
+    let streams = Streams::of(&rt);
     let mut tally: u64 = 0;
     let mut input = [0u8; pages_drawn::INPUT_BYTES];
     let mut screen = [0u8; pages_drawn::SCREEN_BYTES];

@@ -3,7 +3,7 @@
 // `log_writer`.
 #![tactic(auto)]
 
-ghost use Rattle.std.specs.Prelude.{◌≡◌, ◌<◌, ◌≤◌, length, take};
+ghost use Rattle.std.specs.Prelude.{◌≡◌, ◌<◌, ◌≤◌, length, take, is_ok};
 ghost use Rattle.parts.specs.Parts.{capture_bytes};
 ghost use Rattle.bits.specs.Over.{over};
 ghost use Rattle.bits.specs.Tab.{tab};
@@ -16,7 +16,7 @@ ghost use Rattle.pages_drawn.specs.Lent.{input_bytes, file_bytes};
 use bits::put;
 use file_reader::{End, Print, Read};
 use log_text::number_line;
-use log_writer::Streams;
+use log_writer::{Failed, Streams, write_out};
 use screen::pair_at;
 use transfer::page::PAGE_BYTES;
 use view::Number;
@@ -41,7 +41,7 @@ pub fn draw(
     ensures told { Told page_text result.end result.whole (take result.got input.new) tally.old tally.new }
 {
     let read = file_reader::read_file(streams, input);
-    let whole = print(read, streams, tally, input, screen, out);
+    let whole = print(read, streams, tally, input, screen, out).is_ok();
     let end = read.end;
     Print {
         got: read.got,
@@ -58,27 +58,33 @@ fn print(
     input: &[u8],
     screen: &mut [u8],
     out: &mut [u8],
-) -> bool
+) -> Result<(), Failed>
     requires came { Came read.got read.end input.now }
     requires input_len { (length input.now ≡ input_bytes) × ((length screen.old ≡ capture_bytes) × (length out.old ≡ file_bytes)) }
-    ensures { Told page_text read.end result (take read.got input.now) tally.old tally.new }
+    ensures { Told page_text read.end (is_ok result) (take read.got input.now) tally.old tally.new }
 {
     let end = read.end;
     let got = read.got;
     match end {
         End::Ended => tell(streams, tally, &input[0..got], screen, out),
         End::Full => tell(streams, tally, &input[0..got], screen, out),
-        End::Failed => false,
+        End::Failed => Err(Failed),
     }
 }
 
 // Writes what is due of a whole input.
-fn tell(streams: Streams, tally: &mut u64, came: &[u8], screen: &mut [u8], out: &mut [u8]) -> bool
+fn tell(
+    streams: Streams,
+    tally: &mut u64,
+    came: &[u8],
+    screen: &mut [u8],
+    out: &mut [u8],
+) -> Result<(), Failed>
     requires { (length screen.old ≡ capture_bytes) × (length out.old ≡ file_bytes) }
-    ensures { Sent result tally.old (page_text came.now) tally.new }
+    ensures { Sent (is_ok result) tally.old (page_text came.now) tally.new }
 {
     let n = text(came, screen, out);
-    log_writer::write_out(streams, tally, &out[0..n])
+    write_out(streams, tally, &out[0..n])
 }
 
 // The graymap of a page's screen, or the line of its refusal, at the front of the output. Answers its length.

@@ -1,12 +1,12 @@
 -- By the state.
-use borrow.Author.Rules.{rules}
+use Rattle.std.specs.Result.{is_ok}
 use Rattle.log_plate.proofs.Closing.{closed_well, closed_failed, closed-refused}
 use Rattle.log_plate.proofs.print.Goals as goal
 
 pub returns-in-Well : goal.returns-in-Well
 returns-in-Well c =
     let args = c.args in
-    closed_well args.read.state args.read.reading args.block.now c.picture.result args.tally.now c.picture.new.tally c.in-Well.is c.picture.ensures
+    closed_well args.read.state args.read.reading args.block.now (is_ok c.picture.result) args.tally.now c.picture.new.tally c.in-Well.is c.picture.ensures
 
 pub returns-in-Failed : goal.returns-in-Failed
 returns-in-Failed c =
@@ -16,4 +16,4 @@ returns-in-Failed c =
 pub returns-in-Refused : goal.returns-in-Refused
 returns-in-Refused c =
     let args = c.args in
-    closed-refused args.read.state args.read.reading args.block.now c.refusal.result args.tally.now c.refusal.new.tally c.in-Refused.is c.refusal.ensures
+    closed-refused args.read.state args.read.reading args.block.now (is_ok c.refusal.result) args.tally.now c.refusal.new.tally c.in-Refused.is c.refusal.ensures

@@ -1,9 +1,8 @@
 -- The line at the front of the output goes out.
-use borrow.Author.Rules.{rules}
 use mathlib.Core.List.{List}
-use mathlib.Core.Path.{◌≡◌, sym, ap, ◌∙◌, subst}
+use mathlib.Core.Path.{sym, ap, ◌∙◌, subst}
 use Prim.Native.Nat.{ℕ}
-use native.Mathlib.Omega.{arith}
+use Rattle.std.specs.Result.{is_ok}
 use Rattle.bits.specs.Over.{over}
 use Rattle.log_chunks.specs.Texts.{head_line}
 use Rattle.log_writer.specs.Tally.{Sent}
@@ -16,4 +15,4 @@ returns c =
     let block = args.block.now in
     let h = c.head_line-n.ensures in
     let n = h.value.0 in
-    subst (λ (l : List ℕ). Sent c.write_out.result args.tally.now l c.write_out.new.tally) (text-lent (head_line block) args.out.now _ c.head_line-n.result (sym n) (h.out_after ∙ ap (λ (m : ℕ). over 0 m (head_line block) args.out.now) (sym n))) c.write_out.ensures
+    subst (λ (l : List ℕ). Sent (is_ok c.write_out.result) args.tally.now l c.write_out.new.tally) (text-lent (head_line block) args.out.now _ c.head_line-n.result (sym n) (h.out_after ∙ ap (λ (m : ℕ). over 0 m (head_line block) args.out.now) (sym n))) c.write_out.ensures

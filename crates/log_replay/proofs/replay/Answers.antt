@@ -1,7 +1,6 @@
 -- What was read left a valid block, and what is printed behind it is the closing line.
-use borrow.Author.Rules.{rules}
-use borrow.Author.Tests.{not-true, not-false}
-use mathlib.Core.Path.{sym, ◌∙◌}
+use mathlib.Core.Path.{◌≡◌, sym, ◌∙◌}
+use Rattle.std.specs.Result.{is_ok}
 use Rattle.log_replay.proofs.Closing.{failed_printed, told_printed}
 use Rattle.log_replay.proofs.replay.Goals as goal
 
@@ -11,11 +10,12 @@ returns-then-not-is_told c =
     let f = c.read_log-f.result in
     (k.0, (k.1.0, failed_printed f.state f.ended k.0 f.reading _ _ _ (sym c.is_told.ensures ∙ c.if-not-is_told.true) k.1.1))
 
-pub head-whole-requires : goal.head-whole-requires
-head-whole-requires c = (c.read_log-f.ensures.valid.0, c.read_log-f.auto.out ∙ c.requires.out_len.0)
+pub head-requires : goal.head-requires
+head-requires c = (c.read_log-f.ensures.valid.0, c.read_log-f.auto.out ∙ c.requires.out_len.0)
 
 pub returns : goal.returns
 returns c =
     let k = c.read_log-f.ensures.by_index in
     let f = c.read_log-f.result in
-    (k.0, (k.1.0, told_printed f.state f.ended k.0 f.reading _ c.head-whole.result _ _ _ c.read_log-f.ensures.valid.0 (sym c.is_told.ensures ∙ c.if-not-is_told.false) k.1.1 c.head-whole.ensures))
+    let whole : c.is_ok-whole.result ≡ is_ok c.head.result = c.is_ok-whole.ensures.value in
+    (k.0, (k.1.0, told_printed f.state f.ended k.0 f.reading _ c.is_ok-whole.result _ _ _ c.read_log-f.ensures.valid.0 (sym c.is_told.ensures ∙ c.if-not-is_told.false) k.1.1 (rw whole c.head.ensures)))

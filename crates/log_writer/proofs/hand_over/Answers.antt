@@ -1,45 +1,33 @@
 -- Each turn hands over some of what is left.
-use Rattle.std.proofs.Common.{refl, arith}
-use Rattle.log_writer.specs.Tally.{tallied}
-use Rattle.log_writer.proofs.Tallies.{rest-most, tallied-more, sent_all, sent-some}
+use Rattle.std.proofs.Common.{refl, subst, Bool, arith}
+use Rattle.log_writer.specs.Tally.{tallied, Sent}
+use Rattle.log_writer.proofs.Tallies.{rest-most, tallied-more, sent_all, sent-some, sent-none}
+use Rattle.std.proofs.lemmas.Grind.{common_steps}
 use Rattle.log_writer.proofs.hand_over.Goals as goal
 
 pub loop-done-init : goal.loop-done-init
-loop-done-init c = ((unfold tallied in refl), (omega arith, omega arith))
+loop-done-init c = ((unfold tallied in refl), omega arith)
 
-pub put-n-requires : goal.put-n-requires
-put-n-requires c = tt
+pub returns-in_err-n : goal.returns-in_err-n
+returns-in_err-n c =
+    let a = c.loop-done in
+    let sent = sent-none c.args.tally.now a.tally c.args.text.now a.done a.invariant.0 c.put.new.tally c.loop-done-test.true c.in_err-n.ensures.err in
+    subst (λ (b : Bool). Sent b c.args.tally.now c.args.text.now c.put.new.tally) (grind (arith, common_steps, c.from_residual.ensures)) sent
 
 pub returns-then-n-eq0 : goal.returns-then-n-eq0
 returns-then-n-eq0 c =
-    let start = c in
     let a = c.loop-done in
-    let p = c.put-n in
-    sent-some start.args.tally.now a.tally start.args.text.now a.done a.invariant.0 p.new.tally p.result c.if-n-eq0.true p.ensures.0 c.loop-done-test.true p.ensures.1
-
-pub overflow_add-done : goal.overflow_add-done
-overflow_add-done c =
-    let start = c in
-    let a = c.loop-done in
-    let most = rest-most start.args.tally.now a.tally start.args.text.now a.done a.invariant.0 c.put-n.result c.put-n.ensures.0 in
-    omega (arith, most, a.invariant.1.0, a.invariant.1.1)
-
-pub loop-done-smaller : goal.loop-done-smaller
-loop-done-smaller c =
-    let start = c in
-    let a = c.loop-done in
-    let most = rest-most start.args.tally.now a.tally start.args.text.now a.done a.invariant.0 c.put-n.result c.put-n.ensures.0 in
-    omega (arith, most, c.if-n-eq0.false, c.loop-done-test.true)
+    let n = c.in_ok-n in
+    sent-some c.args.tally.now a.tally c.args.text.now a.done a.invariant.0 c.put.new.tally n.n c.if-n-eq0.true n.ensures.ok.0 c.loop-done-test.true n.ensures.ok.1
 
 pub loop-done-preserved : goal.loop-done-preserved
 loop-done-preserved c =
-    let start = c in
     let a = c.loop-done in
-    let most = rest-most start.args.tally.now a.tally start.args.text.now a.done a.invariant.0 c.put-n.result c.put-n.ensures.0 in
-    (tallied-more start.args.tally.now a.tally start.args.text.now a.done a.invariant.0 c.put-n.new.tally c.put-n.result c.put-n.ensures.0 c.put-n.ensures.1, (omega (arith, most, a.invariant.1.0), a.invariant.1.1))
+    let n = c.in_ok-n in
+    let most = rest-most c.args.tally.now a.tally c.args.text.now a.done a.invariant.0 n.n n.ensures.ok.0 in
+    (tallied-more c.args.tally.now a.tally c.args.text.now a.done a.invariant.0 c.put.new.tally n.n n.ensures.ok.0 n.ensures.ok.1, omega (arith, most))
 
 pub returns : goal.returns
 returns c =
-    let start = c in
     let a = c.loop-done in
-    sent_all start.args.tally.now a.tally start.args.text.now a.done a.invariant.0 c.loop-done-test.false
+    sent_all c.args.tally.now a.tally c.args.text.now a.done a.invariant.0 c.loop-done-test.false

@@ -1,6 +1,7 @@
 -- By how reading ended.
 use borrow.Author.Rules.{rules}
 use lib.ListN.{take}
+use Rattle.std.specs.Result.{is_ok}
 use Rattle.file_reader.proofs.Coming.{told-ended, told-full, told_failed}
 use Rattle.pages_drawn.specs.Graymap.{page_text}
 use Rattle.pages_drawn.specs.Lent.{input_bytes}
@@ -12,7 +13,7 @@ returns-in-Ended c =
     let args = c.args in
     let t = c.tell in
     let is = c.in-Ended.is in
-    told-ended page_text args.read.got args.read.end args.input.now t.result args.tally.now t.new.tally t.ensures is
+    told-ended page_text args.read.got args.read.end args.input.now (is_ok t.result) args.tally.now t.new.tally t.ensures is
 
 pub returns-in-Full : goal.returns-in-Full
 returns-in-Full c =
@@ -20,7 +21,7 @@ returns-in-Full c =
     let args = start.args in
     let t = c.tell-in-Full in
     let is = c.in-Full.is in
-    told-full page_text args.read.got args.read.end args.input.now t.result args.tally.now t.new.tally t.ensures
+    told-full page_text args.read.got args.read.end args.input.now (is_ok t.result) args.tally.now t.new.tally t.ensures
     input_bytes start.requires.input_len.0 however_it-goes_on start.requires.came is
 
 pub returns-in-Failed : goal.returns-in-Failed

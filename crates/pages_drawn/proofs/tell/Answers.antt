@@ -3,6 +3,7 @@ use borrow.Author.Rules.{rules}
 use Prim.Native.Nat.{ℕ}
 use mathlib.Core.List.{List}
 use mathlib.Core.Path.{sym, ap, ◌∙◌, subst}
+use Rattle.std.specs.Result.{is_ok}
 use Rattle.bits.specs.Over.{over}
 use Rattle.log_text.proofs.Printed.{text-lent}
 use Rattle.log_writer.specs.Tally.{Sent}
@@ -16,4 +17,4 @@ returns c =
     let due = page_text args.came.now in
     let size = sym made.ensures.value in
     let lent = text-lent due args.out.now _ made.result size (made.ensures.out_after ∙ ap (λ (m : ℕ). over 0 m due args.out.now) size) in
-    subst (λ (l : List ℕ). Sent c.write_out.result args.tally.now l c.write_out.new.tally) lent c.write_out.ensures
+    subst (λ (l : List ℕ). Sent (is_ok c.write_out.result) args.tally.now l c.write_out.new.tally) lent c.write_out.ensures
