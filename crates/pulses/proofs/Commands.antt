@@ -4,12 +4,15 @@ use mathlib.Core.Bool.{Bool, true, false, not, ◌||◌, cond}
 use mathlib.Core.List.{List}
 use Prim.Native.Nat.{ℕ, ◌*◌, ◌<◌, ◌≤◌}
 use native.Mathlib.Omega.{arith}
-use lib.Dec.{eqb, lit≤}
+use lib.Dec.{eqb}
 use lib.ListN.{length, get_or}
 use borrow.Author.Tests.{eqb-true, eqb-false, eq-eqb, ne_eqb, not-false}
-use Rattle.bits.proofs.Tests.{either}
 use Rattle.receiver.proofs.Sound.{count-few}
-use Rattle.pulses.specs.Bytes.{packets_in, malformed, command_packets}
+use Rattle.std.specs.Prelude.{Ok, Err}
+use Rattle.refusal.specs.declared.Refusal.{Refusal}
+use Rattle.refusal.specs.declared.Refusal.TheVariants.{Command}
+use Rattle.pulses.specs.Answer.{packets_answer}
+use Rattle.pulses.specs.Bytes.{packets_in, malformed}
 
 pub record Formed (c : List ℕ) : Type 0 where
   pub taken : malformed c ≡ false
@@ -43,44 +46,36 @@ well-formed c p e z l =
       ne_eqb (packets_in c) 0 (λ y. omega arith),
     )
 
--- ---- how the code finds out
+-- ---- how the code finds out: what has not so many bytes as its packets take, or no packets, is none
 
-pub empty : (c : List ℕ) → length c ≡ 0 → 0 ≡ command_packets c
-unfolding command_packets malformed
-empty c h = rw (eq-eqb (length c) 0 h)
-
-pub uneven : (c : List ℕ) (n : ℕ) → n ≡ packets_in c → (length c ≡ 0 → ⊥) → (length c ≡ 16 * n → ⊥) → 0 ≡ command_packets c
-unfolding command_packets malformed
-uneven c n e h k =
-    rw (ne_eqb (length c) 0 h, ne_eqb (length c) (16 * packets_in c) (λ z. k (z ∙ ap (λ (j : ℕ). 16 * j) (sym e))))
-
-pub whole-packets : (c : List ℕ) (n : ℕ) → n ≡ packets_in c → (length c ≡ 0 → ⊥) → length c ≡ 16 * n → n ≡ command_packets c
-unfolding command_packets malformed
-whole-packets c n e h k =
-    rw (
-      ne_eqb (length c) 0 h,
-      eq-eqb (length c) (16 * packets_in c) (k ∙ ap (λ (j : ℕ). 16 * j) e),
-      ne_eqb (packets_in c) 0 (λ z. h (omega (arith, e))),
-    ) e
-
--- ---- and what it knows then
-
-pub none-malformed : (c : List ℕ) → command_packets c ≡ 0 → malformed c ≡ true
-unfolding command_packets
-none-malformed c = go (malformed c) refl
+pub no_command : (c : List ℕ) → (0 < packets_in c → length c ≡ 16 * packets_in c → ⊥) → malformed c ≡ true
+no_command c h = go (malformed c) refl
   where
-    go : (b : Bool) → malformed c ≡ b → cond b 0 (packets_in c) ≡ 0 → b ≡ true
-    go true e h = refl
-    go false e h = absurd (omega (arith, (formed c e).some))
+    go : (b : Bool) → malformed c ≡ b → b ≡ true
+    go true e = refl
+    go false e = let f = formed c e in absurd (h f.some f.whole)
 
-pub some-formed : (c : List ℕ) → (command_packets c ≡ 0 → ⊥) → Formed c × (command_packets c ≡ packets_in c)
-unfolding command_packets
-some-formed c = go (malformed c) refl
+-- and what it knows then
+pub answer_none : (c : List ℕ) → malformed c ≡ true → Err Command ≡ packets_answer c
+unfolding packets_answer
+answer_none c h = rw h
+
+pub answer_some : (c : List ℕ) (n : ℕ) → n ≡ packets_in c → 0 < n → length c ≡ 16 * n → Ok n ≡ packets_answer c
+unfolding packets_answer
+answer_some c n e z l = rw (well-formed c n (sym e) z l) (ap Ok e)
+
+pub some-formed : (c : List ℕ) (n : ℕ) → Ok n ≡ packets_answer c → Formed c × (n ≡ packets_in c)
+unfolding packets_answer
+some-formed c n = go (malformed c) refl
   where
-    go : (b : Bool) → malformed c ≡ b → (cond b 0 (packets_in c) ≡ 0 → ⊥) → Formed c × (cond b 0 (packets_in c) ≡ packets_in c)
-    go true e h = absurd (h refl)
-    go false e h = (formed c e, refl)
+    go : (b : Bool) → malformed c ≡ b → Ok n ≡ cond b (Err Command) (Ok (packets_in c)) → Formed c × (n ≡ packets_in c)
+    go true e h = absurd (cc)
+    go false e h = (formed c e, cc)
 
-pub packets-few : (c : List ℕ) → command_packets c ≤ 7
-unfolding command_packets packets_in
-packets-few c = either (λ (n : ℕ). n ≤ 7) (malformed c) (λ e. lit≤ tt) (λ e. count-few (get_or c 0 0))
+pub none-malformed : (c : List ℕ) (r : Refusal) → Err r ≡ packets_answer c → (malformed c ≡ true) × (r ≡ Command)
+unfolding packets_answer
+none-malformed c r = go (malformed c)
+  where
+    go : (b : Bool) → Err r ≡ cond b (Err Command) (Ok (packets_in c)) → (b ≡ true) × (r ≡ Command)
+    go true h = (refl, cc)
+    go false h = absurd (cc)

@@ -8,44 +8,46 @@ use lib.ListN.{length, take, drop}
 use lib.Seq.{take_at}
 use borrow.Author.Tests.{lt-ltb, le-ltb}
 use Rattle.bits.specs.Determined.{Once}
-use Rattle.pulses.specs.Answer.{refused, given, encoded_answer, verdict_answer}
-use Rattle.pulses.specs.Bytes.{packets_in, malformed, command_packets}
+use Rattle.pulses.specs.Answer.{refused, given, encoded_answer, verdict_answer, packets_answer}
+use Rattle.pulses.specs.Bytes.{packets_in, malformed}
 use Rattle.pulses.specs.Encode.{pulses_of, short, encoding, encoded, Encodes}
 use Rattle.pulses.specs.Verdict.{conforms, judged, Judges}
-use Rattle.pulses.specs.declared.Encoded.TheVariants as E
-use Rattle.pulses.specs.declared.Conformance.TheVariants as C
+use Rattle.std.specs.Prelude.{Ok, Err}
+use Rattle.refusal.specs.declared.Refusal.{Refusal}
+use Rattle.refusal.specs.declared.Refusal.TheVariants.{Output}
+use Rattle.refusal.proofs.Told.{one_told}
 use Rattle.pulses.proofs.Commands.{formed, none-malformed, some-formed}
 use Rattle.pulses.proofs.Packets.{length_pulses}
 
-module _ (c o : List ℕ) (n : ℕ) (e : n ≡ command_packets c) where
-  pub answers-malformed : n ≡ 0 → Encodes c o E.Malformed o
+module _ (c o : List ℕ) where
+  pub answers-malformed : (r : Refusal) → Err r ≡ packets_answer c → Encodes c o (Err r) o
   unfolding encoded_answer encoding encoded
-  answers-malformed z =
-      let m = none-malformed c (sym e ∙ z) in
-      record { answer = rw m; output = rw m }
+  answers-malformed r h =
+      let m = none-malformed c r h in
+      record { answer = rw (m.0, m.1); output = rw m.0 }
 
-  pub answers-short : (n ≡ 0 → ⊥) → length o < 260 * n → Encodes c o E.Short o
-  unfolding encoded_answer encoding encoded short
-  answers-short z h =
-      let f = some-formed c (λ y. z (e ∙ y)) in
-      let k : n ≡ packets_in c = e ∙ f.1 in
-      let s = lt-ltb (length o) (260 * packets_in c) (omega arith) in
-      record { answer = rw (f.0.taken, s); output = rw (f.0.taken, s) }
+  module _ (n : ℕ) (e : Ok n ≡ packets_answer c) where
+    pub answers-short : length o < 260 * n → Encodes c o (Err Output) o
+    unfolding encoded_answer encoding encoded short
+    answers-short h =
+        let f = some-formed c n e in
+        let k : n ≡ packets_in c = f.1 in
+        let s = lt-ltb (length o) (260 * packets_in c) (omega arith) in
+        record { answer = rw (f.0.taken, s); output = rw (f.0.taken, s) }
 
-  pub answers-writes : (after : List ℕ) → (n ≡ 0 → ⊥) → 260 * n ≤ length o → after ≡ pulses_of n c ++ drop (260 * n) o
-      → Encodes c o (E.Writes (260 * n)) after
-  unfolding encoded_answer encoding encoded short
-  answers-writes after z h a =
-      let f = some-formed c (λ y. z (e ∙ y)) in
-      let k : n ≡ packets_in c = e ∙ f.1 in
-      let s = le-ltb (length o) (260 * packets_in c) (omega arith) in
-      record {
-        answer = rw (f.0.taken, s) (ap (λ (j : ℕ). given (260 * j)) k);
-        output = rw (f.0.taken, s) (a ∙ ap (λ (j : ℕ). pulses_of j c ++ drop (260 * j) o) k);
-      }
+    pub answers-writes : (after : List ℕ) → 260 * n ≤ length o → after ≡ pulses_of n c ++ drop (260 * n) o → Encodes c o (Ok (260 * n)) after
+    unfolding encoded_answer encoding encoded short
+    answers-writes after h a =
+        let f = some-formed c n e in
+        let k : n ≡ packets_in c = f.1 in
+        let s = le-ltb (length o) (260 * packets_in c) (omega arith) in
+        record {
+          answer = rw (f.0.taken, s) (ap (λ (j : ℕ). given (260 * j)) k);
+          output = rw (f.0.taken, s) (a ∙ ap (λ (j : ℕ). pulses_of j c ++ drop (260 * j) o) k);
+        }
 
 -- where the encoder answers a number of writes the command is one that it takes, and these are the command's pulses, at its output's front
-pub encoded_pulses : (c o after : List ℕ) (n : ℕ) → Encodes c o (E.Writes n) after → (malformed c ≡ false) × (take n after ≡ pulses_of (packets_in c) c)
+pub encoded_pulses : (c o after : List ℕ) (n : ℕ) → Encodes c o (Ok n) after → (malformed c ≡ false) × (take n after ≡ pulses_of (packets_in c) c)
 unfolding encoded_answer encoding encoded
 encoded_pulses c o after n h = go (malformed c) refl (short c (length o)) h.answer h.output
   where
@@ -59,7 +61,7 @@ encoded_pulses c o after n h = go (malformed c) refl (short c (length o)) h.answ
         (refl, ap (take n) b ∙ take_at (pulses_of (packets_in c) c) (drop (260 * packets_in c) o) n (l ∙ sym k))
 
 -- and where the verdict says that it conforms, it is one that the encoder takes, and it does
-pub verdict-conforms : (c : List ℕ) → Judges c C.Conforms → (malformed c ≡ false) × (conforms c ≡ true)
+pub verdict-conforms : (c : List ℕ) → Judges c (Ok true) → (malformed c ≡ false) × (conforms c ≡ true)
 unfolding verdict_answer judged
 verdict-conforms c h = go (malformed c) (conforms c) h.answer
   where
@@ -72,24 +74,8 @@ verdict-conforms c h = go (malformed c) (conforms c) h.answer
 
 pub one-encoded : Once encoded_answer
 unfolding encoded_answer
-one-encoded E.Malformed E.Malformed h = refl
-one-encoded E.Malformed E.Short h = absurd (let z : ◌≡◌ {A = ℕ} 5 6 = cc in omega arith)
-one-encoded E.Malformed (E.Writes n) h = absurd (let z : ◌≡◌ {A = ℕ} 0 1 = cc in omega arith)
-one-encoded E.Short E.Malformed h = absurd (let z : ◌≡◌ {A = ℕ} 5 6 = cc in omega arith)
-one-encoded E.Short E.Short h = refl
-one-encoded E.Short (E.Writes n) h = absurd (let z : ◌≡◌ {A = ℕ} 0 1 = cc in omega arith)
-one-encoded (E.Writes m) E.Malformed h = absurd (let z : ◌≡◌ {A = ℕ} 0 1 = cc in omega arith)
-one-encoded (E.Writes m) E.Short h = absurd (let z : ◌≡◌ {A = ℕ} 0 1 = cc in omega arith)
-one-encoded (E.Writes m) (E.Writes n) h = ap E.Writes (cc)
+one-encoded = one_told (λ n. n) (λ a b e. e)
 
 pub one_verdict : Once verdict_answer
 unfolding verdict_answer
-one_verdict C.Malformed C.Malformed h = refl
-one_verdict C.Malformed C.Conforms h = cc
-one_verdict C.Malformed C.Differs h = cc
-one_verdict C.Conforms C.Malformed h = cc
-one_verdict C.Conforms C.Conforms h = refl
-one_verdict C.Conforms C.Differs h = cc
-one_verdict C.Differs C.Malformed h = cc
-one_verdict C.Differs C.Conforms h = cc
-one_verdict C.Differs C.Differs h = refl
+one_verdict = one_told (λ b. b) (λ a b e. e)

@@ -15,8 +15,8 @@ use Rattle.pulses.specs.Answer.{verdict_answer}
 use Rattle.pulses.specs.Bytes.{Bytes, packets_in}
 use Rattle.pulses.specs.Fewest.{fewest, announcing, bare, Sends}
 use Rattle.pulses.specs.Verdict.{attr_blk, attr_lin, attr_chr, announces, announced, most_items, bytes_for, one_to, brings, most_packets, conforms, judged, Judges}
-use Rattle.pulses.specs.declared.Conformance.{Conformance}
-use Rattle.pulses.specs.declared.Conformance.TheVariants as C
+use Rattle.std.specs.Prelude.{Result, Ok}
+use Rattle.refusal.specs.declared.Refusal.{Refusal}
 use Rattle.pulses.proofs.Commands.{well-formed}
 use Rattle.pulses.proofs.Encodes.{verdict-conforms, one_verdict}
 use Rattle.pulses.proofs.Held.{each_of-three, conforms_items}
@@ -56,7 +56,7 @@ module _ (c : List ℕ) (code p n : ℕ) (h : announces code ≡ true) (e : code
       turned false false d = refl
 
   -- so where `verdict` says that it conforms it has the fewest packets, or more
-  pub none-fewer : Judges c C.Conforms → fewest code n ≤ p
+  pub none-fewer : Judges c (Ok true) → fewest code n ≤ p
   none-fewer says =
       let r = and_both (one_to (most_items code) n) _ (sym conforms-exactly ∙ (verdict-conforms c says).1) in
       leb-true (fewest code n) p (and_both (leb (fewest code n) p) _ r.1).0
@@ -152,6 +152,6 @@ each_number code n h z m =
     (leb-true p (most_packets code) (sym (most-held code n h) ∙ le-leb n (most_items code) m))
 
 -- and of it `verdict` can say nothing else
-pub sends-conforms : (code p n : ℕ) (c : List ℕ) → Sends code p n c → (r : Conformance) → Judges c r → r ≡ C.Conforms
+pub sends-conforms : (code p n : ℕ) (c : List ℕ) → Sends code p n c → (r : Result Bool Refusal) → Judges c r → r ≡ Ok true
 unfolding verdict_answer
-sends-conforms code p n c s r says = one_verdict r C.Conforms (says.answer ∙ s.conforming)
+sends-conforms code p n c s r says = one_verdict r (Ok true) (says.answer ∙ s.conforming)

@@ -1,20 +1,20 @@
--- What the calls here answer, as a refusal's number or a value (`Answer` of the crate `bits`): for each enum, which it is in each case.
+-- What the calls here answer, as a refusal's number or a value (`Answer` of the crate `bits`).
 -- RULES 2.1.
-use Rattle.std.specs.Prelude.{ℕ, Bool, true, false}
+use Rattle.std.specs.Prelude.{ℕ, Bool, cond, List, Result, Ok, Err}
 pub use Rattle.bits.specs.Answer.{Answer, refused, given}
-use Rattle.pulses.specs.declared.Encoded.{Encoded}
-use Rattle.pulses.specs.declared.Encoded.TheVariants as E
-use Rattle.pulses.specs.declared.Conformance.{Conformance}
-use Rattle.pulses.specs.declared.Conformance.TheVariants as C
+use Rattle.refusal.specs.declared.Refusal.{Refusal}
+use Rattle.refusal.specs.declared.Refusal.TheVariants.{Command}
+use Rattle.refusal.specs.Codes.{told_by}
+use Rattle.pulses.specs.Bytes.{packets_in, malformed}
 
 -- how many writes
-unfoldable pub encoded_answer : Encoded → Answer ℕ
-encoded_answer E.Malformed = refused 5
-encoded_answer E.Short = refused 6
-encoded_answer (E.Writes n) = given n
+unfoldable pub encoded_answer : Result ℕ Refusal → Answer ℕ
+encoded_answer r = told_by (λ n. n) r
 
 -- whether the command conforms
-unfoldable pub verdict_answer : Conformance → Answer Bool
-verdict_answer C.Malformed = refused 5
-verdict_answer C.Conforms = given true
-verdict_answer C.Differs = given false
+unfoldable pub verdict_answer : Result Bool Refusal → Answer Bool
+verdict_answer r = told_by (λ b. b) r
+
+-- the packets of a command that is not malformed
+unfoldable pub packets_answer : List ℕ → Result ℕ Refusal
+packets_answer c = cond (malformed c) (Err Command) (Ok (packets_in c))

@@ -1,6 +1,6 @@
 -- A command is a list of bytes; which lists are commands.
 -- RULES 2.1: the others get refusal 5.
-use Rattle.std.specs.Prelude.{ℕ, ◌*◌, ◌<◌, Bool, not, ◌||◌, cond, List, [], ◌∷◌, eqb, length, get_or}
+use Rattle.std.specs.Prelude.{ℕ, ◌*◌, ◌<◌, Bool, not, ◌||◌, List, [], ◌∷◌, eqb, length, get_or}
 use Rattle.receiver.specs.Count.{count_of}
 
 abbrev pub Bytes : List ℕ → Type 0
@@ -13,7 +13,3 @@ packets_in c = count_of (get_or c 0 0)
 
 unfoldable pub malformed : List ℕ → Bool
 malformed c = eqb (length c) 0 || (not (eqb (length c) (16 * packets_in c)) || eqb (packets_in c) 0)
-
--- the packets of a command that is not
-unfoldable pub command_packets : List ℕ → ℕ
-command_packets c = cond (malformed c) 0 (packets_in c)

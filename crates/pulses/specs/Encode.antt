@@ -1,8 +1,8 @@
 -- The pulses of a command, 260 writes a packet. RULES 7.1; Pan Docs, Command packet transfers.
-use Rattle.std.specs.Prelude.{ℕ, zero, suc, ◌*◌, ◌/◌, ◌%◌, ◌≡◌, Bool, cond, List, [], ◌∷◌, ◌++◌, ltb, length, take, drop}
+use Rattle.std.specs.Prelude.{Result, ℕ, zero, suc, ◌*◌, ◌/◌, ◌%◌, ◌≡◌, Bool, cond, List, [], ◌∷◌, ◌++◌, ltb, length, take, drop}
 use Rattle.pulses.specs.Answer.{Answer, refused, given, encoded_answer}
 use Rattle.pulses.specs.Bytes.{packets_in, malformed}
-use Rattle.pulses.specs.declared.Encoded.{Encoded}
+use Rattle.refusal.specs.declared.Refusal.{Refusal}
 
 -- the n lowest bits of x, least significant first
 unfoldable pub bits_of : ℕ → ℕ → List ℕ
@@ -48,6 +48,6 @@ encoded c out =
     (cond (short c (length out)) out (pulses_of (packets_in c) c ++ drop (260 * packets_in c) out))
 
 -- the contract of `encode`: for a command c and an output `out` it answers r and leaves `after`
-pub record Encodes (c out : List ℕ) (r : Encoded) (after : List ℕ) : Type 0 where
+pub record Encodes (c out : List ℕ) (r : Result ℕ Refusal) (after : List ℕ) : Type 0 where
   pub answer : encoded_answer r ≡ encoding c (length out)
   pub output : after ≡ encoded c out

@@ -1,12 +1,12 @@
 -- Whether a command conforms: its code, its number of packets and the number that it announces are on Pan Docs' list, and its packets hold
 -- all that it announces. RULES 7.2; Pan Docs, Command summary (packets), Attributes (the sets of ATTR_BLK, the lines of ATTR_LIN, the cells of
 -- ATTR_CHR, and where in a command they stand).
-use Rattle.std.specs.Prelude.{ℕ, ◌+◌, ◌*◌, ◌/◌, ◌≡◌, Bool, true, ◌&&◌, ◌||◌, cond, List, eqb, leb, get_or}
+use Rattle.std.specs.Prelude.{Result, ℕ, ◌+◌, ◌*◌, ◌/◌, ◌≡◌, Bool, true, ◌&&◌, ◌||◌, cond, List, eqb, leb, get_or}
 use Rattle.bits.specs.Word.{word_at}
 use Rattle.receiver.specs.Count.{code_of}
 use Rattle.pulses.specs.Answer.{Answer, refused, given, verdict_answer}
 use Rattle.pulses.specs.Bytes.{packets_in, malformed}
-use Rattle.pulses.specs.declared.Conformance.{Conformance}
+use Rattle.refusal.specs.declared.Refusal.{Refusal}
 
 abbrev pub attr_blk : ℕ
 attr_blk = 0x04
@@ -65,5 +65,5 @@ unfoldable pub judged : List ℕ → Answer Bool
 judged c = cond (malformed c) (refused 5) (given (conforms c))
 
 -- the contract of `verdict`: of a command c it answers r
-pub record Judges (c : List ℕ) (r : Conformance) : Type 0 where
+pub record Judges (c : List ℕ) (r : Result Bool Refusal) : Type 0 where
   pub answer : verdict_answer r ≡ judged c

@@ -4,73 +4,46 @@
 #![tactic(auto)]
 
 ghost use Rattle.std.specs.Prelude.{◌≡◌};
-ghost use Rattle.pulses.specs.Bytes.{command_packets};
+ghost use Rattle.pulses.specs.Answer.{packets_answer};
 ghost use Rattle.pulses.specs.Encode.{Encodes};
 ghost use Rattle.pulses.specs.Verdict.{Judges};
 
-use bits::wide;
 use packet::encode_packets;
 use receiver::packet_count;
+use refusal::Refusal;
 
 pub mod packet;
 pub mod rule;
 
-// What the encoder answers: the command is malformed (refusal 5), the output is short (refusal 6), or this many writes.
-#[derive(Clone, Copy)]
-pub enum Encoded {
-    Malformed,
-    Short,
-    Writes(usize),
-}
-
-// What the verdict is: the command is malformed (refusal 5), it conforms, or it doesn't.
-#[derive(Clone, Copy)]
-pub enum Conformance {
-    Malformed,
-    Conforms,
-    Differs,
-}
-
-// The pulses of a command, at the front of `out`.
-pub fn encode(command: &[u8], out: &mut [u8]) -> Encoded
+// The pulses of a command, at the front of `out`. Refused are a malformed command (5) and an output that is too short for them (6).
+pub fn encode(command: &[u8], out: &mut [u8]) -> Result<usize, Refusal>
     ensures { Encodes command.now out.old result out.new }
 {
-    let n = packets_of(command);
-    if n == 0 {
-        return Encoded::Malformed;
-    }
+    let n = packets_of(command)?;
     if out.len() < 260 * n {
-        return Encoded::Short;
+        return Err(Refusal::Output);
     }
     encode_packets(command, n, out);
-    Encoded::Writes(260 * n)
+    Ok(260 * n)
 }
 
-// Whether a command conforms.
-pub fn verdict(command: &[u8]) -> Conformance
+// Whether a command conforms. Refused is a malformed one (5).
+pub fn verdict(command: &[u8]) -> Result<bool, Refusal>
     ensures { Judges command.now result }
 {
-    let n = packets_of(command);
-    if n == 0 {
-        return Conformance::Malformed;
-    }
-    if rule::conforms(command, n) {
-        Conformance::Conforms
-    } else {
-        Conformance::Differs
-    }
+    let n = packets_of(command)?;
+    Ok(rule::conforms(command, n))
 }
 
-// The packets of a command, or 0 if it is malformed.
-fn packets_of(command: &[u8]) -> usize
-    ensures { result ≡ command_packets command.now }
+// The packets of a command.
+fn packets_of(command: &[u8]) -> Result<usize, Refusal>
+    ensures { result ≡ packets_answer command.now }
 {
-    if command.len() == 0 {
-        return 0;
+    if let Some(first) = command.first() {
+        let n = usize::from(packet_count(*first));
+        if n > 0 && command.len() == 16 * n {
+            return Ok(n);
+        }
     }
-    let n = wide(packet_count(command[0]));
-    if command.len() != 16 * n {
-        return 0;
-    }
-    n
+    Err(Refusal::Command)
 }

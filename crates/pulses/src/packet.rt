@@ -17,12 +17,9 @@ pub fn encode_packet(packet: &[u8], out: &mut [u8])
 {
     out[0] = 0x00;
     out[1] = 0x30;
-    let mut k: usize = 0;
-    while k < 128 {
-        let v = pulse_of(packet[k >> 3], (k & 7) as u8);
-        out[2 + 2 * k] = v;
+    for k in 0..128 {
+        out[2 + 2 * k] = pulse_of(packet[k >> 3], (k & 7) as u8);
         out[3 + 2 * k] = 0x30;
-        k += 1;
     }
     out[258] = 0x20;
     out[259] = 0x30;
@@ -33,11 +30,9 @@ pub fn encode_packets(command: &[u8], n: usize, out: &mut [u8])
     requires { (n < 8) × ((16 * n ≤ length command.now) × (260 * n ≤ length out.old)) }
     ensures { out.new ≡ pulses_of n command.now ++ drop (260 * n) out.old }
 {
-    let mut p: usize = 0;
-    while p < n {
+    for p in 0..n {
         let from = 16 * p;
         let to = 260 * p;
         encode_packet(&command[from..from + 16], &mut out[to..to + 260]);
-        p += 1;
     }
 }

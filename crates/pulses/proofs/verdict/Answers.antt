@@ -1,28 +1,26 @@
--- No packets means malformed, and else the rule's answer is the definition's.
+-- Without packets it is refused, and else the rule's answer is the definition's.
 use mathlib.Core.Path.{sym, ◌∙◌}
 use native.Mathlib.Omega.{arith}
+use Rattle.refusal.proofs.Told.{passed_on}
 use Rattle.pulses.specs.Answer.{verdict_answer}
 use Rattle.pulses.specs.Verdict.{judged}
 use Rattle.pulses.proofs.Commands.{none-malformed, some-formed}
 use Rattle.pulses.proofs.verdict.Goals as goal
 
-pub returns-then-n-eq0 : goal.returns-then-n-eq0
+pub returns-in_err-n : goal.returns-in_err-n
 unfolding verdict_answer judged
-returns-then-n-eq0 c = record { answer = rw (none-malformed c.args.command.now (sym c.packets_of-n.ensures ∙ c.if-n-eq0.true)) }
+returns-in_err-n c =
+    let m = none-malformed c.args.command.now c.in_err-n.field-0.0 (sym c.in_err-n.was ∙ c.packets_of.ensures) in
+    let e = passed_on c.from_residual.result c.in_err-n.field-0.0 c.from_residual.ensures.1 in
+    record { answer = rw (e, m.0, m.1) }
 
 pub conforms-requires : goal.conforms-requires
 conforms-requires c =
-    let f = some-formed c.args.command.now (λ z. c.if-n-eq0.false (c.packets_of-n.ensures ∙ z)) in
-    (omega (arith, f.0.some, f.0.whole), (omega (arith, f.0.few, c.packets_of-n.ensures, f.1), c.packets_of-n.ensures ∙ f.1))
+    let f = some-formed c.args.command.now c.in_ok-n.n (sym c.in_ok-n.was ∙ c.packets_of.ensures) in
+    (omega (arith, f.0.some, f.0.whole), (omega (arith, f.0.few, f.1), f.1))
 
-pub returns-then-conforms : goal.returns-then-conforms
+pub returns : goal.returns
 unfolding verdict_answer judged
-returns-then-conforms c =
-    let f = some-formed c.args.command.now (λ z. c.if-n-eq0.false (c.packets_of-n.ensures ∙ z)) in
-    record { answer = rw (f.0.taken, sym c.conforms.ensures ∙ c.if-conforms.true) }
-
-pub returns-else-conforms : goal.returns-else-conforms
-unfolding verdict_answer judged
-returns-else-conforms c =
-    let f = some-formed c.args.command.now (λ z. c.if-n-eq0.false (c.packets_of-n.ensures ∙ z)) in
-    record { answer = rw (f.0.taken, sym c.conforms.ensures ∙ c.if-conforms.false) }
+returns c =
+    let f = some-formed c.args.command.now c.in_ok-n.n (sym c.in_ok-n.was ∙ c.packets_of.ensures) in
+    record { answer = rw (f.0.taken, sym c.conforms.ensures) }

@@ -10,12 +10,11 @@ use Rattle.pulses.proofs.packet.encode_packets.Goals as goal
 
 pub loop-p-init : goal.loop-p-init
 unfolding pulses_of
-loop-p-init c = (omega arith, (c.requires.0, (c.requires.1.0, (refl, (c.requires.1.1, refl)))))
+loop-p-init c = (refl, refl)
 
 pub encode_packet-requires : goal.encode_packet-requires
 encode_packet-requires c =
     let at = c.loop-p in
-    let h = at.invariant.1.1 in
     let cut : 16 * at.p + 16 - 16 * at.p ≡ 16 = omega arith in
     let room : 260 * at.p + 260 - 260 * at.p ≡ 260 = omega arith in (
       rw cut (length-take-le 16 (drop (16 * at.p) c.args.command.now) (simp length-drop (omega arith))),
@@ -25,24 +24,20 @@ encode_packet-requires c =
 pub loop-p-preserved : goal.loop-p-preserved
 loop-p-preserved c =
     let at = c.loop-p in
-    let v = at.invariant.1 in
     let x = c.args.command.now in
     let o = c.args.out.now in
     let h : at.p < c.args.n = c.loop-p-test.true in
     let cut : 16 * at.p + 16 - 16 * at.p ≡ 16 = omega arith in
     let room : 260 * at.p + 260 - 260 * at.p ≡ 260 = omega arith in
     let e =
-    next_turn x o at.out _ at.p _ _ cut room c.encode_packet.ensures (omega arith) (omega arith) v.1.1.1.1
-    in (
-      omega arith,
-      (v.0, (v.1.0, (ap length e ∙ length_so_far x o (at.p + 1) (omega arith) (omega arith), (v.1.1.1.0, e)))),
-    )
+    next_turn x o at.out _ at.p _ _ cut room c.encode_packet.ensures (omega arith) (omega arith) at.invariant.1
+    in (ap length e ∙ length_so_far x o (at.p + 1) (omega arith) (omega arith), e)
 
 pub shape_of-out : goal.shape_of-out
-shape_of-out c = c.loop-p.invariant.1.1.1.0
+shape_of-out c = c.loop-p.invariant.0
 
 pub returns : goal.returns
 returns c =
     let at = c.loop-p in
     let e : at.p ≡ c.args.n = omega arith in
-    rw e at at.invariant.1.1.1.1.1
+    rw e at at.invariant.1
