@@ -8,11 +8,11 @@ ghost use Rattle.colour.specs.Colour.{ramp, rgb8};
 ghost use Rattle.colour.specs.Entry.{tile_of, palette_of, flip_x, flip_y};
 
 // A 15-bit colour of the SNES, as a palette holds it.
-#[derive(Clone, Copy)]
+#[derive(Clone, Copy, Debug, PartialEq, Eq)]
 pub struct Rgb555(pub u16);
 
 // The same colour at eight bits a channel, as a screen shows it.
-#[derive(Clone, Copy)]
+#[derive(Clone, Copy, Debug, PartialEq, Eq)]
 pub struct Rgb8 {
     pub r: u8,
     pub g: u8,
@@ -49,11 +49,11 @@ fn brightness(level: u16) -> u8
     requires { level < 32 }
     ensures { result ≡ ramp level }
 {
-    GAMMA_RAMP[level as usize]
+    GAMMA_RAMP[usize::from(level)]
 }
 
 // One entry of the border's map: `VH-P PPCC CCCC CCCC`.
-#[derive(Clone, Copy)]
+#[derive(Clone, Copy, Debug, PartialEq, Eq)]
 pub struct BorderMapEntry(pub u16);
 
 impl BorderMapEntry {

@@ -27,7 +27,7 @@ pub fn indices(tiles: &[u8], spreads: &[u32], entry: BorderMapEntry, y: usize) -
     ensures { result ≡ lanes 8 (λ x. index_of tiles.now entry.0 x y) }
 {
     if border::draws(entry) {
-        let n = entry.tile() as usize;
+        let n = usize::from(entry.tile());
         let right = entry.flip_x();
         let flip_y = entry.flip_y();
         return indices_in(
@@ -71,29 +71,29 @@ pub fn fill_spreads(out: &mut [u32])
     requires { length out.old ≡ 512 }
     ensures { out.new ≡ tab 512 spread_of }
 {
-    fill_left(out);
-    fill_right(out);
+    fill_half::<0>(out);
+    fill_half::<256>(out);
 }
 
-fn fill_left(out: &mut [u32])
-    requires { length out.old ≡ 512 }
-    ensures { Painted out.new out.old 0 256 spread_of }
+// Its half from FROM on. A loop each, since within a half the side is known and no entry asks for it.
+fn fill_half<const FROM: usize>(out: &mut [u32])
+    requires { (length out.old ≡ 512) × (FROM ≤ 256) }
+    ensures { Painted out.new out.old FROM 256 (λ k. spread_of (FROM + k)) }
 {
-    let mut k = 0;
-    while k < 256 {
-        out[k] = from_left(k as u32);
-        k += 1;
+    for k in 0..256 {
+        out[FROM + k] = spread((FROM + k) as u32);
     }
 }
 
-fn fill_right(out: &mut [u32])
-    requires { length out.old ≡ 512 }
-    ensures { Painted out.new out.old 256 256 (λ k. spread_of (256 + k)) }
+// Entry k of the table.
+fn spread(k: u32) -> u32
+    requires { k < 512 }
+    ensures { result ≡ spread_of k }
 {
-    let mut k = 0;
-    while k < 256 {
-        out[256 + k] = from_right(k as u32);
-        k += 1;
+    if k < 256 {
+        from_left(k)
+    } else {
+        from_right(k - 256)
     }
 }
 
