@@ -7,47 +7,45 @@ ghost use Rattle.parts.specs.Parts.{map_bytes, capture_bytes};
 ghost use Rattle.bits.specs.Paint.{Painted};
 ghost use Rattle.screen.specs.Packed.{cell_at};
 ghost use Rattle.picture_lanes.specs.Lanes.{lane};
-ghost use Rattle.picture_runs.specs.Runs.{Lent, Tables, base_of, lane_shade, Packs, within, screen_from, run_pixel, pixel_in};
+ghost use Rattle.picture_runs.specs.Runs.{Tables, base_of, lane_shade, Packs, within, screen_from, run_pixel, pixel_in};
+ghost use Rattle.picture_runs.specs.Drawing.{source_of};
 
+use crate::drawing::{PictureParts, PictureTables};
 use colour::{BorderMapEntry, Rgb555};
+
+pub mod drawing;
 
 // The run at border column c of row y, written from `at` on.
 pub fn run(
     out: &mut [u16],
     at: usize,
-    tiles: &[u8],
-    map: &[u8],
-    attributes: &[u8],
-    screen: &[u8],
-    spreads: &[u32],
-    border: &[u16],
-    game: &[u16],
+    parts: &PictureParts,
+    tables: &PictureTables,
     c: usize,
     y: usize,
 )
-    requires lent { Lent tiles.now map.now attributes.now screen.now }
-    requires tables { Tables spreads.now border.now game.now }
+    requires tables { Tables tables.now.spreads tables.now.border tables.now.game }
     requires at_in_bounds { (at + 8 ≤ length out.old) × (c < 32) × (y < 224) }
-    ensures { Painted out.new out.old at 8 (pixel_in (record { tiles = tiles.entry.now; map = map.now; attributes = attributes.now; screen = screen.now; border = border.now; game = game.now }) c y) }
+    ensures { Painted out.new out.old at 8 (pixel_in (source_of parts.now tables.now) c y) }
 {
-    let entry = border::map_entry(map, c, y / 8);
-    let l = picture_lanes::indices(tiles, spreads, entry, y % 8);
+    let entry = border::map_entry(parts.map, c, y / 8);
+    let l = picture_lanes::indices(parts.tiles, &tables.spreads, entry, y % 8);
     let b = base(entry);
     if within_screen(c, y) {
-        let s = shades(screen, c, y);
-        let n = cell(attributes, c, y) * 4;
+        let s = shades(parts.screen, c, y);
+        let n = cell(parts.attributes, c, y) * 4;
         if l == 0 {
-            run_game(out, at, s, game, n);
+            run_game(out, at, s, &tables.game, n);
             return;
         }
-        run_both(out, at, l, border, b, s, game, n);
+        run_both(out, at, l, &tables.border, b, s, &tables.game, n);
         return;
     }
     if l == 0 {
-        run_plain(out, at, color_in(border, 0));
+        run_plain(out, at, color_in(&tables.border, 0));
         return;
     }
-    run_border(out, at, l, border, b);
+    run_border(out, at, l, &tables.border, b);
 }
 
 // Where an entry's palette starts among the border's colours.
@@ -55,7 +53,7 @@ fn base(entry: BorderMapEntry) -> usize
     ensures { (result ≡ base_of entry.0) × (result ≤ 32) }
 {
     if border::draws(entry) {
-        return (entry.palette() - 4) as usize * 16;
+        return usize::from(entry.palette() - 4) * 16;
     }
     0
 }
@@ -64,19 +62,11 @@ fn base(entry: BorderMapEntry) -> usize
 const SCREEN_END: usize = 40 + 144;
 
 // Whether border column c of row y lies on the screen.
+#[tactic(auto, unfolding(crate::specs::Runs::within))]
 fn within_screen(c: usize, y: usize) -> bool
     ensures { result ≡ within c y }
 {
-    if c < 6 {
-        return false;
-    }
-    if c >= 26 {
-        return false;
-    }
-    if y < 40 {
-        return false;
-    }
-    y < SCREEN_END
+    c >= 6 && c < 26 && y >= 40 && y < SCREEN_END
 }
 
 // The eight shades of the screen there.
@@ -103,10 +93,8 @@ fn run_plain(out: &mut [u16], at: usize, color: Rgb555)
     requires { at + 8 ≤ length out.old }
     ensures { Painted out.new out.old at 8 (λ j. color.0) }
 {
-    let mut j = 0;
-    while j < 8 {
+    for j in 0..8 {
         out[at + j] = color.0;
-        j += 1;
     }
 }
 
@@ -115,11 +103,9 @@ fn run_border(out: &mut [u16], at: usize, l: u32, border: &[u16], base: usize)
     requires { (at + 8 ≤ length out.old) × (base + 16 ≤ length border.now) }
     ensures { Painted out.new out.old at 8 (λ j. get_or border.now (base + lane l j) 0) }
 {
-    let mut j = 0;
-    while j < 8 {
+    for j in 0..8 {
         let i = picture_lanes::nibble(l, j);
         out[at + j] = color_in(border, base + i).0;
-        j += 1;
     }
 }
 
@@ -128,11 +114,9 @@ fn run_game(out: &mut [u16], at: usize, s: u16, game: &[u16], n: usize)
     requires { (at + 8 ≤ length out.old) × (n + 4 ≤ length game.now) }
     ensures { Painted out.new out.old at 8 (λ j. get_or game.now (n + lane_shade s j) 0) }
 {
-    let mut j = 0;
-    while j < 8 {
+    for j in 0..8 {
         let h = shade(s, j);
         out[at + j] = color_in(game, n + h).0;
-        j += 1;
     }
 }
 
@@ -150,12 +134,10 @@ fn run_both(
     requires { (at + 8 ≤ length out.old) × (base + 16 ≤ length border.now) × (n + 4 ≤ length game.now) }
     ensures { Painted out.new out.old at 8 (λ j. run_pixel (lane l j) border.now base (get_or game.now (n + lane_shade s j) 0)) }
 {
-    let mut j = 0;
-    while j < 8 {
+    for j in 0..8 {
         let i = picture_lanes::nibble(l, j);
         let h = shade(s, j);
         out[at + j] = over(i, color_in(border, base + i), color_in(game, n + h)).0;
-        j += 1;
     }
 }
 
@@ -174,7 +156,7 @@ fn shade(s: u16, j: usize) -> usize
     (s >> (14 - 2 * j) & 3) as usize
 }
 
-// Colour k of a lent table. It holds words: the borrow checker does not cover a slice of structs.
+// Colour k of a table.
 fn color_in(table: &[u16], k: usize) -> Rgb555
     requires { k < length table.now }
     ensures { result.0 ≡ get_or table.now k 0 }

@@ -2,15 +2,14 @@
 use Prim.Native.Nat.{ℕ, ◌+◌}
 use mathlib.Core.Path.{refl, ap₂, ◌∙◌}
 use mathlib.Core.Bool.{cond}
-use native.Mathlib.Omega.{arith}
 use lib.Dec.{eqb}
-use lib.ListN.{length-set, get_or}
-use Rattle.bits.proofs.Painting.{painted_none, painted_turn, painted-count}
+use lib.ListN.{get_or}
+use Rattle.bits.proofs.Painting.{painted_none, painted_turn}
 use Rattle.picture_runs.specs.Runs.{run_pixel}
 use Rattle.picture_runs.proofs.run_both.Goals as goal
 
 pub loop-j-init : goal.loop-j-init
-loop-j-init c = (omega arith, refl, painted_none)
+loop-j-init c = painted_none
 
 pub loop-j-preserved : goal.loop-j-preserved
 loop-j-preserved c =
@@ -22,10 +21,4 @@ loop-j-preserved c =
     c.over.ensures
     ∙ (λ t. cond (eqb nibble.nibble-i.result 0) (c.color_in-in-loop-j.ensures t) (c.color_in.ensures t))
     ∙ ap₂ (λ (i h : ℕ). run_pixel i a.border.now a.base (get_or a.game.now (a.n + h) 0)) nibble.nibble-i.ensures.0 shade.shade-h.ensures.0 in
-    (omega arith, simp length-set l.invariant.1, painted_turn l.invariant.2 _ _ refl seen)
-
-pub shape_of-out : goal.shape_of-out
-shape_of-out c = c.loop-j.invariant.1
-
-pub returns : goal.returns
-returns c = painted-count c.loop-j.invariant.2 8 (omega arith)
+    painted_turn l.invariant _ _ refl seen

@@ -1,11 +1,5 @@
-use Prim.Native.Nat.{◌-◌, ◌≤◌}
-use mathlib.Core.Path.{◌≡◌}
-use lib.ListN.{length}
 use Rattle.bits.specs.Paint.{Painted}
 use Rattle.picture_runs.proofs.run_plain.Given as goal
 
 abbrev pub invariant-loop-j : goal.invariant-loop-j
-invariant-loop-j l = (l.j ≤ 8) × (length l.out ≡ length l.initial.out) × Painted l.out l.initial.out l.at l.j (λ i. l.color.0)
-
-abbrev pub decreases-loop-j : goal.decreases-loop-j
-decreases-loop-j l = 8 - l.j
+invariant-loop-j l = Painted l.out l.initial.out l.at l.j (λ i. l.color.0)

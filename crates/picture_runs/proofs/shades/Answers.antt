@@ -9,4 +9,4 @@ pub returns : goal.returns
 returns c =
     let a = c.args in
     let at = (a.y - 40) * 40 + (a.c - 6) * 2 in
-    packs a.screen.now (screen_from a.c a.y) at _ (omega arith) (omega (arith, c.shared_slice_known-1.given (at + 1))) c.word.ensures
+    packs a.screen.now (screen_from a.c a.y) at _ (omega arith) (omega (arith, c.type_inv.screen (at + 1))) c.word.ensures
