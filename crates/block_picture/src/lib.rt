@@ -10,6 +10,7 @@ ghost use Rattle.layout.specs.Valid.{Valid};
 ghost use Rattle.block_picture.specs.Drawn.{parts_of, backdrop_in, shade_in, border_in, row_drawn, picture_drawn};
 
 use colour::{BorderMapEntry, Rgb555};
+use picture_runs::drawing::PictureTables;
 
 pub mod of_block;
 
@@ -17,11 +18,7 @@ pub fn backdrop(block: &[u8]) -> Rgb555
     requires { Valid block.now }
     ensures { result.0 ≡ backdrop_in (parts_of (load block.now)) }
 {
-    screen::backdrop(
-        of_block::palettes(block),
-        of_block::preset(block),
-        of_block::in_force(block),
-    )
+    of_block::colours(block).backdrop()
 }
 
 pub fn shade(block: &[u8], x: usize, y: usize, shade: u8) -> Rgb555
@@ -29,15 +26,7 @@ pub fn shade(block: &[u8], x: usize, y: usize, shade: u8) -> Rgb555
     requires x_bound { (x < 160) × (y < 144) × (shade ≤ 3) }
     ensures { result.0 ≡ shade_in (parts_of (load block.now)) x y shade }
 {
-    screen::color_at(
-        of_block::palettes(block),
-        of_block::preset(block),
-        of_block::in_force(block),
-        of_block::attributes(block),
-        x,
-        y,
-        bits::wide(shade),
-    )
+    of_block::colours(block).color_at(of_block::attributes(block), x, y, bits::wide(shade))
 }
 
 pub fn entry(block: &[u8], column: usize, row: usize) -> BorderMapEntry
@@ -63,49 +52,26 @@ pub fn border(block: &[u8], x: usize, y: usize) -> Option<Rgb555>
 }
 
 // The tables that its picture is drawn from, made once for as many rows as are asked for.
-pub fn tables(block: &[u8], spreads: &mut [u32], border: &mut [u16], game: &mut [u16])
-    requires valid { Valid block.now }
-    requires spreads_len { (length spreads.old ≡ 512) × (length border.old ≡ 48) × (length game.old ≡ 16) }
-    ensures { TablesOf (parts_of (load block.now)) spreads.new border.new game.new }
+pub fn tables(block: &[u8], out: &mut PictureTables)
+    requires { Valid block.now }
+    ensures { TablesOf (parts_of (load block.now)) out.new.spreads out.new.border out.new.game }
 {
     picture::tables(
-        of_block::palettes(block),
-        of_block::preset(block),
-        of_block::in_force(block),
+        of_block::colours(block),
         of_block::mode(block),
         of_block::borders(block),
-        spreads,
-        border,
-        game,
+        out,
     );
 }
 
 // Row y from the tables, into the first 256 words of `out`.
-pub fn row_from(
-    block: &[u8],
-    spreads: &[u32],
-    border: &[u16],
-    game: &[u16],
-    y: usize,
-    out: &mut [u16],
-)
+pub fn row_from(block: &[u8], tables: &PictureTables, y: usize, out: &mut [u16])
     requires valid { Valid block.now }
-    requires tables_of { TablesOf (parts_of (load block.now)) spreads.now border.now game.now }
+    requires tables_of { TablesOf (parts_of (load block.now)) tables.now.spreads tables.now.border tables.now.game }
     requires y_bound { (y < 224) × (256 ≤ length out.old) }
     ensures { out.new ≡ row_drawn block.now y out.old }
 {
-    picture::row(
-        out,
-        0,
-        of_block::tiles(block),
-        of_block::map(block),
-        of_block::attributes(block),
-        of_block::shown(block),
-        spreads,
-        border,
-        game,
-        y,
-    );
+    picture::row(out, 0, &of_block::drawn(block), tables, y);
 }
 
 // Row y by itself.
@@ -114,11 +80,13 @@ pub fn draw_row(block: &[u8], y: usize, out: &mut [u16])
     requires y_bound { (y < 224) × (256 ≤ length out.old) }
     ensures { out.new ≡ row_drawn block.now y out.old }
 {
-    let mut spreads = [0u32; 512];
-    let mut border = [0u16; 48];
-    let mut game = [0u16; 16];
-    tables(block, &mut spreads, &mut border, &mut game);
-    row_from(block, &spreads, &border, &game, y, out);
+    let mut made = PictureTables {
+        spreads: [0; 512],
+        border: [0; 48],
+        game: [0; 16],
+    };
+    tables(block, &mut made);
+    row_from(block, &made, y, out);
 }
 
 // The whole picture, into the first 57,344 words of `out`.
@@ -127,18 +95,11 @@ pub fn draw_picture(block: &[u8], out: &mut [u16])
     requires in_bounds { 57344 ≤ length out.old }
     ensures { out.new ≡ picture_drawn block.now out.old }
 {
-    let mut spreads = [0u32; 512];
-    let mut border = [0u16; 48];
-    let mut game = [0u16; 16];
-    tables(block, &mut spreads, &mut border, &mut game);
-    picture::picture(
-        out,
-        of_block::tiles(block),
-        of_block::map(block),
-        of_block::attributes(block),
-        of_block::shown(block),
-        &spreads,
-        &border,
-        &game,
-    );
+    let mut made = PictureTables {
+        spreads: [0; 512],
+        border: [0; 48],
+        game: [0; 16],
+    };
+    tables(block, &mut made);
+    picture::picture(out, &of_block::drawn(block), &made);
 }

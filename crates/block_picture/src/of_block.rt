@@ -5,6 +5,36 @@ ghost use Rattle.layout.specs.Block.{load};
 ghost use Rattle.layout.specs.Valid.{Valid};
 ghost use Rattle.block_picture.specs.Drawn.{parts_of};
 
+use picture_runs::drawing::PictureParts;
+use screen::Colours;
+
+// What the colours of the screen come from.
+pub fn colours(block: &[u8]) -> Colours<'_>
+    requires { Valid block.now }
+    ensures of_palettes { (result.palettes.now ≡ (parts_of (load block.now)).palettes) × (result.preset.now ≡ (parts_of (load block.now)).preset) }
+    ensures of_byte { result.in_force ≡ (parts_of (load block.now)).in_force }
+{
+    Colours {
+        palettes: palettes(block),
+        preset: preset(block),
+        in_force: in_force(block),
+    }
+}
+
+// What the runs of a row are drawn from.
+pub fn drawn(block: &[u8]) -> PictureParts<'_>
+    requires { Valid block.now }
+    ensures of_border { (result.tiles.now ≡ (parts_of (load block.now)).tiles) × (result.map.now ≡ (parts_of (load block.now)).map) }
+    ensures of_screen { (result.attributes.now ≡ (parts_of (load block.now)).attributes) × (result.screen.now ≡ (parts_of (load block.now)).screen) }
+{
+    PictureParts {
+        tiles: tiles(block),
+        map: map(block),
+        attributes: attributes(block),
+        screen: shown(block),
+    }
+}
+
 pub fn palettes(block: &[u8]) -> &[u8]
     requires { Valid block.now }
     ensures { (result.now ≡ (parts_of (load block.now)).palettes) × (length result.now ≡ palettes_bytes) }

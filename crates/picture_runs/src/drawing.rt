@@ -12,6 +12,7 @@ pub struct PictureParts<'a> {
 
 // Plane bytes spread over lanes, the border's 48 colours, and the screen's, four a palette. The colours are words: the borrow checker does not
 // cover a slice of structs.
+#[derive(Drop)]
 pub struct PictureTables {
     pub spreads: [u32; 512],
     pub border: [u16; 48],

@@ -6,4 +6,6 @@ use Rattle.block_picture.proofs.backdrop.Goals as goal
 
 pub returns : goal.returns
 unfolding backdrop_in
-returns c = c.backdrop.ensures ∙ (λ t. backdrop_of (c.palettes.ensures.0 t) (c.preset.ensures.0 t) (c.in_force.ensures t))
+returns c =
+    let e = c.colours.ensures in
+    c.backdrop.ensures ∙ (λ t. backdrop_of (e.of_palettes.0 t) (e.of_palettes.1 t) (e.of_byte t))

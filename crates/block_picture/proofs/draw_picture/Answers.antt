@@ -4,20 +4,12 @@ use Rattle.layout.specs.Block.{load}
 use Rattle.block_picture.specs.Drawn.{parts_of, picture_drawn}
 use Rattle.block_picture.proofs.draw_picture.Goals as goal
 
-pub picture-requires : goal.picture-requires
-picture-requires c =
-    let d = c in
-    let m = d in
-    let made = m in
-    let start = made in
-    record { lent = record { tiles_long = m.tiles.ensures.1; map_long = m.map.ensures.1; attributes_long = d.attributes.ensures.1; screen_long = d.shown.ensures.1 }; tables = tables-are _ _ _ _ made.tables.ensures; in_bounds = start.requires.in_bounds }
+pub picture-requires-clause-tables : goal.picture-requires-clause-tables
+picture-requires-clause-tables c = tables-are _ _ _ _ c.tables.ensures
 
 pub returns : goal.returns
 unfolding picture_drawn
 returns c =
-    let d = c in
-    let m = d in
-    let made = m in
-    let start = made in
-    picture-is (parts_of (load start.args.block.now)) _ _ _ made.tables.ensures m.tiles.ensures.0 m.map.ensures.0 d.attributes.ensures.0 d.shown.ensures.0
-    _ _ c.picture.ensures start.requires.in_bounds
+    let d = c.drawn.ensures in
+    picture-is (parts_of (load c.args.block.now)) _ _ _ c.tables.ensures d.of_border.0 d.of_border.1 d.of_screen.0 d.of_screen.1
+    _ _ c.picture.ensures c.requires.in_bounds

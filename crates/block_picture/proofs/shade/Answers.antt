@@ -7,7 +7,6 @@ use Rattle.block_picture.proofs.shade.Goals as goal
 pub returns : goal.returns
 unfolding shade_in
 returns c =
+    let e = c.colours.ensures in
     c.color_at.ensures
-    ∙ (λ t.
-    colour_at (c.palettes.ensures.0 t) (c.preset.ensures.0 t) (c.in_force.ensures t) (c.attributes.ensures.0 t)
-    c.args.x c.args.y (c.wide.ensures.0 t))
+    ∙ (λ t. colour_at (e.of_palettes.0 t) (e.of_palettes.1 t) (e.of_byte t) (c.attributes.ensures.0 t) c.args.x c.args.y (c.wide.ensures.0 t))
