@@ -14,6 +14,7 @@ ghost use Rattle.log_reader.specs.Fed.{LentSizes, chunk_bytes, out_bytes};
 
 use log_reader::{CHUNK_BYTES, OUT_BYTES};
 use log_reading::Reading;
+use picture_runs::drawing::PictureTables;
 
 // A row of the picture as text, and all of them.
 const ROW: usize = 1025;
@@ -171,31 +172,29 @@ fn finish(prints: Prints, block: &[u8], words: &mut [u16], text: &mut [u8], n: u
 fn picture(block: &[u8], words: &mut [u16], text: &mut [u8])
     requires { Valid block.now × ((length words.old ≡ 256) × (229600 ≤ length text.old)) }
 {
-    let mut spreads = [0u32; 512];
-    let mut border = [0u16; 48];
-    let mut game = [0u16; 16];
-    block_picture::tables(block, &mut spreads, &mut border, &mut game);
-    rows(block, &spreads, &border, &game, words, text);
+    let mut tables = PictureTables {
+        spreads: [0; 512],
+        border: [0; 48],
+        game: [0; 16],
+    };
+    block_picture::tables(block, &mut tables);
+    rows(block, &tables, words, text);
 }
 
 fn rows(
     block: &[u8],
-    spreads: &[u32],
-    border: &[u16],
-    game: &[u16],
+    tables: &PictureTables,
     words: &mut [u16],
     text: &mut [u8],
 )
     requires valid { Valid block.now × ((length words.old ≡ 256) × (229600 ≤ length text.old)) }
-    requires tables_of { TablesOf (parts_of (load block.now)) spreads.now border.now game.now }
+    requires tables_of { TablesOf (parts_of (load block.now)) tables.now.spreads tables.now.border tables.now.game }
 {
     for y in 0..224 {
         let at = ROW * y;
         log_chunks::row_line(
             block,
-            spreads,
-            border,
-            game,
+            tables,
             y,
             words,
             &mut text[at..at + ROW],

@@ -23,6 +23,7 @@ use log_line::lines::{Held, split};
 use log_line::{Line, parse};
 use log_reading::Reading;
 use log_text::{command_line, refusal_line};
+use picture_runs::drawing::PictureTables;
 
 // The room that the longest text of a step needs: a command of 112 bytes has 225.
 const STEP_ROOM: usize = 256;
@@ -207,7 +208,13 @@ fn say(
     ensures { Said so_far (desk block.old line.old bytes.old command.old) chunk.now out.old result (desk block.new line.new bytes.new command.new) out.new }
 {
     let s = take_step(
-        so_far.reading, block, line, bytes, command, chunk, so_far.at,
+        so_far.reading,
+        block,
+        line,
+        bytes,
+        command,
+        chunk,
+        so_far.at,
     );
     let n = tell(s, command, out, so_far.size);
     Filled {
@@ -263,21 +270,13 @@ pub fn head_line(block: &[u8], out: &mut [u8]) -> usize
 }
 
 // A row of the picture as `plate` prints it, at the front of `out`, from the tables of the block's picture.
-pub fn row_line(
-    block: &[u8],
-    spreads: &[u32],
-    border: &[u16],
-    game: &[u16],
-    y: usize,
-    words: &mut [u16],
-    out: &mut [u8],
-)
+pub fn row_line(block: &[u8], tables: &PictureTables, y: usize, words: &mut [u16], out: &mut [u8])
     requires valid { Valid block.now × (y < 224) }
-    requires tables_of { TablesOf (parts_of (load block.now)) spreads.now border.now game.now }
+    requires tables_of { TablesOf (parts_of (load block.now)) tables.now.spreads tables.now.border tables.now.game }
     requires words_len { (length words.old ≡ 256) × (1025 ≤ length out.old) }
     ensures words_after { words.new ≡ row_of (parts_of (load block.now)) y }
     ensures out_after { out.new ≡ over 0 1025 (row_line (row_of (parts_of (load block.now)) y)) out.old }
 {
-    block_picture::row_from(block, spreads, border, game, y, words);
+    block_picture::row_from(block, tables, y, words);
     log_text::row_line(words, out);
 }

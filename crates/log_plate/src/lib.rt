@@ -17,6 +17,7 @@ ghost use Rattle.log_plate.specs.Closed.{Closed};
 
 use log_reader::{Print, Read};
 use log_writer::{Failed, State, Streams, write_out};
+use picture_runs::drawing::PictureTables;
 
 pub fn plate(
     streams: Streams,
@@ -75,33 +76,31 @@ fn picture(streams: Streams, tally: &mut u64, block: &[u8], out: &mut [u8]) -> R
     requires out_len { length out.old ≡ out_bytes }
     ensures { Sent (is_ok result) tally.old (picture_lines (load block.now)) tally.new }
 {
-    let mut spreads = [0u32; 512];
-    let mut border = [0u16; 48];
-    let mut game = [0u16; 16];
-    block_picture::tables(block, &mut spreads, &mut border, &mut game);
+    let mut tables = PictureTables {
+        spreads: [0; 512],
+        border: [0; 48],
+        game: [0; 16],
+    };
+    block_picture::tables(block, &mut tables);
     let mut words = [0u16; 256];
-    rows(
-        streams, tally, block, &spreads, &border, &game, &mut words, out,
-    )
+    rows(streams, tally, block, &tables, &mut words, out)
 }
 
 fn rows(
     streams: Streams,
     tally: &mut u64,
     block: &[u8],
-    spreads: &[u32],
-    border: &[u16],
-    game: &[u16],
+    tables: &PictureTables,
     words: &mut [u16],
     out: &mut [u8],
 ) -> Result<(), Failed>
     requires valid { Valid block.now }
-    requires tables_of { TablesOf (parts_of (load block.now)) spreads.now border.now game.now }
+    requires tables_of { TablesOf (parts_of (load block.now)) tables.now.spreads tables.now.border tables.now.game }
     requires words_len { (length words.old ≡ 256) × (length out.old ≡ out_bytes) }
     ensures { Sent (is_ok result) tally.old (picture_lines (load block.now)) tally.new }
 {
     for y in 0..224 {
-        log_chunks::row_line(block, spreads, border, game, y, words, out);
+        log_chunks::row_line(block, tables, y, words, out);
         write_out(streams, tally, &out[0..1025])?;
     }
     Ok(())
