@@ -79,7 +79,7 @@ fn mask(code: u8, i: usize) -> u8 {
 fn encode(first: u8, d: &[u8], writes: &mut [u8])
     requires { length writes.old ≡ 1916 }
 {
-    pulses::encode(d, writes);
+    let _ = pulses::encode(d, writes);
     if empty(first) {
         writes[2] = 0x20;
     }
