@@ -12,11 +12,19 @@ use Rattle.order.specs.Log.{Act, write, screen, Aligned}
 use Rattle.unit.specs.Answers.{written_told, shown_told}
 use Rattle.unit.specs.Calls.{write_answer, write_block, write_command, screen_answer, screen_block}
 use Rattle.unit.specs.Together.{Reply, Performed, performed_none, done_write, done_screen, performed}
-use Rattle.unit.specs.declared.Written.{Written}
-use Rattle.unit.specs.declared.Shown.{Shown}
+use Rattle.std.specs.Prelude.{Option, Result}
+use Rattle.refusal.specs.declared.Refusal.{Refusal}
+use Rattle.transfer.specs.declared.pending.Transfer.{Transfer}
 use Rattle.unit.proofs.write_joypad.Reads as write-joypad
 use Rattle.unit.proofs.update_screen.Reads as update-screen
 use Rattle.unit.proofs.Together.{calls-order}
+
+-- what such a call answers
+abbrev pub Written : Type 0
+Written = Result (Option ℕ) Refusal
+
+abbrev pub Shown : Type 0
+Shown = Result (Option Transfer) Refusal
 
 -- a call of `write_joypad` by its contract, as the compiler reads it (`Learnt`, see `Determined`): it was lent the block b and the buffer c,
 -- answered r, and left b' and c'

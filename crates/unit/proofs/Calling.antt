@@ -1,21 +1,57 @@
 -- The answers and every lent byte of the calls, case by case: a refusal leaves all as it was, an answer leaves what the worker left.
 use mathlib.Core.Path.{◌≡◌, refl, sym, ap, ◌∙◌}
-use mathlib.Core.Bool.{cond}
+use mathlib.Core.Bool.{Bool, true, false, cond}
+use Rattle.std.specs.Prelude.{Option, Result, IsErrAnd}
+use Rattle.refusal.specs.declared.Refusal.{Refusal}
+use Rattle.refusal.specs.Codes.{code_of, told_by}
+use Rattle.refusal.proofs.Told.{passed_on}
 use mathlib.Core.List.{List}
-use Prim.Native.Nat.{ℕ, ◌<◌, ◌≤◌}
-use borrow.Author.Tests.{ne_eqb, eq-eqb, le-leb, lt-leb}
+use Prim.Native.Nat.{ℕ, ◌≤◌}
+use borrow.Author.Tests.{ne_eqb, eq-eqb, eqb-true, le-leb, leb-true}
+use lib.Dec.{eqb, leb}
 use lib.ListN.{length}
 use Rattle.pulses.specs.Answer.{Answer, refused, given}
-use Rattle.transfer.specs.declared.pending.Landed.{Landed}
+use Rattle.transfer.specs.declared.pending.Transfer.{Transfer}
 use Rattle.transfer.specs.Pending.{landed_of}
 use Rattle.parts.specs.Parts.{block_bytes, store_bytes, capture_bytes}
 use Rattle.layout.specs.Block.{load, save}
 use Rattle.layout.specs.Fresh.{new, post_boot}
-use Rattle.layout.specs.Valid.{Valid}
+use Rattle.layout.specs.Valid.{Valid, valid}
+use Rattle.broken.specs.Broken.{broken, broken_number}
+use Rattle.view.specs.Refusal.{refusing}
 use Rattle.rules.specs.Screen.{screened, landing}
 use Rattle.view.specs.Looks.{leaves}
 use Rattle.view.proofs.Refusals.{answers, keeps, draws}
 use Rattle.unit.specs.Calls.{with_room, screen_answer, screen_block, fresh_answer, new_block, post_boot_block}
+
+-- ---- the test of a block and of the room for a command, as a call makes it first
+
+abbrev pub tested : List ℕ → List ℕ → Answer (Unit {0})
+tested b command = with_room b command tt
+
+-- a refusal by it is the answer, whatever was asked
+pub room-refuses : {A : Type 0} (b command : List ℕ) (a : A) (n : ℕ) → refused n ≡ tested b command → refused n ≡ with_room b command a
+unfolding with_room refusing
+room-refuses b command a n e = go (eqb (length b) block_bytes) (valid b) (leb store_bytes (length command)) (broken_number (broken b)) e
+  where
+    go : (s t u : Bool) (k : ℕ) → ◌≡◌ {A = Answer (Unit {0})} (refused n) (cond s (cond t (cond u (given tt) (refused 6)) (refused k)) (refused 1))
+        → refused n ≡ cond s (cond t (cond u (given a) (refused 6)) (refused k)) (refused 1)
+    go true true true k z = cc
+    go true true false k z = ap refused (cc)
+    go true false u k z = ap refused (cc)
+    go false t u k z = ap refused (cc)
+
+-- else the block is valid and there is room
+pub room-passes : (b command : List ℕ) → given tt ≡ tested b command → Valid b × (store_bytes ≤ length command)
+unfolding with_room refusing
+room-passes b command e = go (eqb (length b) block_bytes) (valid b) (leb store_bytes (length command)) (broken_number (broken b)) refl refl refl e
+  where
+    go : (s t u : Bool) (k : ℕ) → eqb (length b) block_bytes ≡ s → valid b ≡ t → leb store_bytes (length command) ≡ u
+        → ◌≡◌ {A = Answer (Unit {0})} (given tt) (cond s (cond t (cond u (given tt) (refused 6)) (refused k)) (refused 1)) → Valid b × (store_bytes ≤ length command)
+    go true true true k p q r z = (record { long = eqb-true (length b) block_bytes p; tested = q }, leb-true store_bytes (length command) r)
+    go true true false k p q r z = cc
+    go true false u k p q r z = cc
+    go false t u k p q r z = cc
 
 -- ---- a call that is lent a command buffer: it answers a, and leaves the block and the buffer, or refuses
 
@@ -26,9 +62,12 @@ module _ {A : Type 0} (b command : List ℕ) (a : A) (block buffer : List ℕ) w
   pub room-refused : (n : ℕ) → refused n ≡ with_room b command a → left (refused n) b command
   room-refused n e = (e, ((keeps (with_room b command a) block b e).1, (keeps (with_room b command a) buffer command e).1))
 
-  pub room-short : Valid b → length command < store_bytes → left (refused 6) b command
-  room-short k h =
-      room-refused 6 (unfold with_room in sym (ap (λ t. cond t (given a) (refused 6)) (lt-leb store_bytes (length command) h)) ∙ answers b _ k)
+  -- as it leaves by a `?`
+  pub room-passed : {V : Type 0} (f : V → A) (r : Result V Refusal) (e : Refusal) → refused (code_of e) ≡ tested b command → IsErrAnd r (λ y. y ≡ e)
+      → left (told_by f r) b command
+  room-passed f r e k h =
+      let l = room-refused (code_of e) (room-refuses b command a (code_of e) k) in
+      (ap (told_by f) (passed_on r e h) ∙ l.0, l.1)
 
   room-is : Valid b → store_bytes ≤ length command → given a ≡ with_room b command a
   room-is k h = unfold with_room in sym (ap (λ t. cond t (given a) (refused 6)) (le-leb store_bytes (length command) h)) ∙ answers b _ k
@@ -49,13 +88,13 @@ module _ (b x : List ℕ) where
       unfold screen_answer in
       sym (ap (λ t. cond t (given (landed_of (landing (load b).snes))) (refused 3)) (ne_eqb (length x) capture_bytes h)) ∙ answers b _ k
 
-  screen_is : (l : Landed) → Valid b → length x ≡ capture_bytes → l ≡ landing (load b).snes → given (landed_of l) ≡ screen_answer b x
+  screen_is : (l : Option Transfer) → Valid b → length x ≡ capture_bytes → l ≡ landing (load b).snes → given (landed_of l) ≡ screen_answer b x
   screen_is l k h e =
       unfold screen_answer in
       ap (λ n. given (landed_of n)) e
       ∙ sym (ap (λ t. cond t (given (landed_of (landing (load b).snes))) (refused 3)) (eq-eqb (length x) capture_bytes h)) ∙ answers b _ k
 
-  pub screen-given : (l : Landed) (block : List ℕ) → Valid b → length x ≡ capture_bytes → l ≡ landing (load b).snes → block ≡ save (screened (load b) x)
+  pub screen-given : (l : Option Transfer) (block : List ℕ) → Valid b → length x ≡ capture_bytes → l ≡ landing (load b).snes → block ≡ save (screened (load b) x)
       → (given (landed_of l) ≡ screen_answer b x) × (block ≡ screen_block b x)
   screen-given l block k h e p = unfold screen_block in draws (screen_answer b x) _ b block (screen_is l k h e) p
 

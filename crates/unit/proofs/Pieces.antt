@@ -1,6 +1,6 @@
 -- Writes handed over call by call to `play` do what `write_joypad` does one by one: one call plays what single writes would leave, by induction
 -- over the writes; and what one call left is where the next begins.
-use Prim.Native.Nat.{ℕ, zero, suc, ◌+◌, ◌≤◌, ◌<◌}
+use Prim.Native.Nat.{ℕ, zero, suc, ◌≤◌}
 use native.Mathlib.Omega.{arith}
 use mathlib.Core.Path.{◌≡◌, refl, sym, ap, ◌∙◌, subst, subst⁻¹}
 use mathlib.Core.Bool.{true}
@@ -8,16 +8,16 @@ use mathlib.Core.List.{List, [], ◌∷◌, ◌++◌, map}
 use mathlib.Core.Option.{Option, none, some, IsSome}
 use lib.ListN.{length, take, drop, length-take}
 use lib.Seq.{take-take, take-add}
-use Rattle.pulses.specs.Answer.{Answer, given}
+use Rattle.pulses.specs.Answer.{given}
 use Rattle.parts.specs.Parts.{store_bytes}
 use Rattle.layout.specs.Block.{load, save}
 use Rattle.layout.specs.Sgb.{Sgb}
-use Rattle.layout.specs.Valid.{valid, Valid}
+use Rattle.layout.specs.Valid.{valid}
 use Rattle.layout.proofs.Saved.{save-load, clauses}
 use Rattle.layout.proofs.Goods.{valid-good, good-valid, good-back}
 use Rattle.rules.specs.Write.{written, answer}
 use Rattle.rules.proofs.Keeps.{good-written}
-use Rattle.order.specs.Log.{Act, write}
+use Rattle.order.specs.Log.{write}
 use Rattle.order.specs.Blocks.{written_block}
 use Rattle.block_port.specs.Bytes.{handed}
 use Rattle.block_port.proofs.Handed.{length-handed}

@@ -1,13 +1,13 @@
 -- What a call of `play` answers and leaves of a valid block: what was played of the writes that it takes.
-use mathlib.Core.Path.{◌≡◌, refl, sym, ap, ◌∙◌, subst⁻¹}
+use mathlib.Core.Path.{◌≡◌, refl, sym, ap, ◌∙◌}
+use mathlib.Core.Bool.{Bool, true, false}
 use mathlib.Core.List.{List}
-use Prim.Native.Nat.{ℕ, ◌-◌, ◌≤◌, ◌<◌}
+use Prim.Native.Nat.{ℕ, ◌≤◌, min}
 use native.Mathlib.Omega.{arith}
-use borrow.Author.Tests.{ltb-true, ltb-false}
-use lib.Dec.{ltb}
+use borrow.Author.Tests.{leb-true, leb-false}
+use lib.Dec.{leb}
 use lib.ListN.{length, take}
 use lib.Seq.{take_all, take-length}
-use Rattle.bits.proofs.Tests.{either}
 use Rattle.pulses.specs.Answer.{Answer, given}
 use Rattle.parts.specs.Parts.{store_bytes}
 use Rattle.layout.specs.Block.{load, save}
@@ -18,24 +18,22 @@ use Rattle.block_writes.specs.Play.{Played, played}
 use Rattle.block_writes.proofs.Plays.{kept-played}
 use Rattle.unit.specs.Answers.{packets_if}
 use Rattle.unit.specs.Calls.{packets_answered}
-use Rattle.unit.specs.Plays.{play_most, lesser, Taken, play_answer, play_block, play_command}
+use Rattle.unit.specs.Plays.{play_most, Taken, play_answer, play_block, play_command}
 use Rattle.unit.proofs.Calling.{room-given}
 use Rattle.unit.proofs.Writes.{packets-if}
 
 -- the part that the code hands on
-module _ (ws : List ℕ) (n most : ℕ) (e : n ≡ lesser (length ws) most) where
-  pub most-within : n ≤ length ws
-  unfolding lesser
-  most-within = subst⁻¹ (λ (m : ℕ). m ≤ length ws) e
-      (either (λ (m : ℕ). m ≤ length ws) (ltb (length ws) most) (λ h. let k : length ws ≤ length ws = omega arith in k) (λ h. ltb-false (length ws) most h))
-
-  pub most-taken : take (n - 0) ws ≡ take most ws
-  unfolding lesser
-  most-taken =
-      let z : n - 0 ≡ n = omega arith in
-      ap (λ (m : ℕ). take m ws) (z ∙ e)
-      ∙ either (λ (m : ℕ). take m ws ≡ take most ws) (ltb (length ws) most)
-      (λ h. let k : length ws < most = ltb-true (length ws) most h in take-length ws ∙ sym (take_all most ws (omega arith))) (λ h. refl)
+pub most-taken : (ws : List ℕ) (n most : ℕ) → n ≡ min (length ws) most → take n ws ≡ take most ws
+most-taken ws n most e =
+    ap (λ (m : ℕ). take m ws) e
+    ∙ by (leb most (length ws)) refl
+  where
+    by : (t : Bool) → leb most (length ws) ≡ t → take (min (length ws) most) ws ≡ take most ws
+    by true h = let k : min (length ws) most ≡ most = omega (arith, leb-true most (length ws) h) in ap (λ (m : ℕ). take m ws) k
+    by false h =
+        let l = leb-false most (length ws) h in
+        let k : min (length ws) most ≡ length ws = omega arith in
+        ap (λ (m : ℕ). take m ws) k ∙ take-length ws ∙ sym (take_all most ws (omega arith))
 
 module _ (b ws s command m c : List ℕ) (at n : ℕ) (told : Answer Taken) (ok : Valid b) (room : store_bytes ≤ length command) (part : s ≡ take play_most ws)
     (says : told ≡ given (record { writes = at; packets = packets_if n })) (to : at ≡ (played (load b) s).at)

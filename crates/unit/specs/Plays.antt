@@ -2,7 +2,7 @@
 -- all that is lent. They are played by the rules (`Play` of the crate `block_writes`); refusals are those of a single write. A call takes at most
 -- `play_most` of them, so that how many were taken crosses to C in one number with the command's packets.
 -- Next door: what a caller holds who hands over many writes by such calls (`Pieces`).
-use Rattle.std.specs.Prelude.{ℕ, cond, List, ltb, take}
+use Rattle.std.specs.Prelude.{ℕ, List, take}
 use Rattle.std.proofs.Math.Option.{Option}
 use Rattle.bits.specs.Answer.{Answer}
 use Rattle.layout.specs.Block.{load, save}
@@ -13,9 +13,6 @@ use Rattle.unit.specs.Calls.{packets_answered, with_room}
 
 unfoldable pub play_most : ℕ
 play_most = 1048576
-
-unfoldable pub lesser : ℕ → ℕ → ℕ
-lesser m n = cond (ltb m n) m n
 
 -- how many were taken, and the packets of the command that the last of them completed: its bytes stand at the front of the buffer
 pub record Taken : Type 0 where
