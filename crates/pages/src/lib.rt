@@ -13,24 +13,23 @@ ghost use Rattle.pages.specs.Passes.{reached, fours_in, four_byte, row_byte, row
 
 use refusal::Refusal;
 use transfer::page::PAGE_BYTES;
-use view::Number;
 
 // The bytes of the 104 rows of pixels that a page reaches.
 const REACHED: usize = 104 * 40;
 
 // The screen of a page, at the front of `screen`: 5,760 bytes.
-pub fn page_screen(page: &[u8], screen: &mut [u8]) -> Number
+pub fn page_screen(page: &[u8], screen: &mut [u8]) -> Result<usize, Refusal>
     ensures result_value { number_told result ≡ page_screen_answer page.now screen.old }
     ensures screen_after { screen.new ≡ page_screen_left page.now screen.old }
 {
     if page.len() != PAGE_BYTES {
-        return Number::Refused(Refusal(10));
+        return Err(Refusal::Page);
     }
     if screen.len() < parts::CAPTURE_BYTES {
-        return Number::Refused(Refusal(6));
+        return Err(Refusal::Output);
     }
-    draw(page, &mut screen[0..parts::CAPTURE_BYTES]);
-    Number::Is(parts::CAPTURE_BYTES)
+    draw(page, &mut screen[..parts::CAPTURE_BYTES]);
+    Ok(parts::CAPTURE_BYTES)
 }
 
 // Every byte of the screen, in two passes over it, so that nothing is held beside it. The second has no order to follow, and goes many bytes at a
@@ -48,10 +47,8 @@ fn lay(page: &[u8], screen: &mut [u8])
     requires { (length page.now ≡ page_bytes) × (length screen.old ≡ capture_bytes) }
     ensures { screen.new ≡ rows_of page.now }
 {
-    let mut y = 0;
-    while y < 104 {
+    for y in 0..104 {
         lay_row(page, screen, y);
-        y += 1;
     }
     blank(screen, REACHED, parts::CAPTURE_BYTES - REACHED);
 }
@@ -82,10 +79,8 @@ fn lay_fours(page: &[u8], screen: &mut [u8], y: usize, f: usize)
 {
     let from = y / 8 * 320 + y % 8 * 2;
     let to = y * 40;
-    let mut g = 0;
-    while g < f {
+    for g in 0..f {
         lay_four(page, screen, from + g * 64, to + 8 * g);
-        g += 1;
     }
 }
 
@@ -96,15 +91,13 @@ fn lay_four(page: &[u8], screen: &mut [u8], o: usize, i: usize)
     requires page_len { (length page.now ≡ page_bytes) × (length screen.old ≡ capture_bytes) }
     ensures { Painted screen.new screen.old i 8 (four_byte page.now o) }
 {
-    let mut c = 0;
-    while c < 4 {
+    for c in 0..4 {
         let a = o + c * 16;
         let low = page[a];
         let high = page[a + 1];
         let b = i + 2 * c;
         screen[b] = low;
         screen[b + 1] = high;
-        c += 1;
     }
 }
 
@@ -113,10 +106,8 @@ fn blank(screen: &mut [u8], at: usize, n: usize)
     requires { at + n ≤ length screen.old }
     ensures { Painted screen.new screen.old at n (λ i. 0) }
 {
-    let mut i = 0;
-    while i < n {
+    for i in 0..n {
         screen[at + i] = 0;
-        i += 1;
     }
 }
 
@@ -125,13 +116,11 @@ fn pack(screen: &mut [u8])
     requires { length screen.old ≡ capture_bytes }
     ensures { Painted screen.new screen.old 0 reached (packed_byte screen.old) }
 {
-    let mut k = 0;
-    while k < 2080 {
+    for k in 0..2080 {
         let i = 2 * k;
         let low = screen[i];
         let high = screen[i + 1];
         screen[i] = bits::left_four(low, high);
         screen[i + 1] = bits::right_four(low, high);
-        k += 1;
     }
 }
