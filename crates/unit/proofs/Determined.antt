@@ -19,8 +19,6 @@ use Rattle.refusal.proofs.Told.{one_told, one_or_0}
 use Rattle.refusal.proofs.Refusal.code.Reads as refusal-code
 use Rattle.refusal.proofs.Refusal.number.Reads as refusal-number
 use Rattle.refusal.proofs.Refusal.offset.Reads as refusal-offset
-use Rattle.pulses.specs.declared.Encoded.{Encoded}
-use Rattle.pulses.specs.declared.Conformance.{Conformance}
 use Rattle.pulses.specs.Answer.{encoded_answer, verdict_answer}
 use Rattle.pulses.proofs.Encodes.{one-encoded, one_verdict}
 use Rattle.pulses.proofs.encode.Reads as encode
@@ -165,8 +163,8 @@ displayed-screen_determined k a r s e f p q = same _ _ p q
 pub tile_determined : (k : _) → Determined (List ℕ) (tile.Learnt k) (λ r e. r.now)
 tile_determined k a r s e f p q = same _ _ p q
 
-pub encode_determined : (k : _) → Determined (Encoded × List ℕ) (encode.Learnt k) (λ r e. (r, e.1.0.now))
+pub encode_determined : (k : _) → Determined (Result ℕ Refusal × List ℕ) (encode.Learnt k) (λ r e. (r, e.1.0.now))
 encode_determined k a r s e f p q = λ t. (one encoded_answer one-encoded r s p.answer q.answer t, same _ _ p.output q.output t)
 
-pub verdict_determined : (k : _) → Determined Conformance (verdict.Learnt k) (λ r e. r)
+pub verdict_determined : (k : _) → Determined (Result Bool Refusal) (verdict.Learnt k) (λ r e. r)
 verdict_determined k a r s e f p q = one verdict_answer one_verdict r s p.answer q.answer

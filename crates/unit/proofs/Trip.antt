@@ -18,7 +18,7 @@ use Rattle.pulses.specs.Answer.{given}
 use Rattle.pulses.specs.Bytes.{Bytes, packets_in, malformed}
 use Rattle.pulses.specs.Encode.{bits_of, bits_in, pulse, sent, pulses_of, Encodes}
 use Rattle.pulses.specs.Trip.{NoneHeld, resting}
-use Rattle.pulses.specs.declared.Encoded.TheVariants as E
+use Rattle.std.specs.Prelude.{Ok}
 use Rattle.pulses.proofs.Commands.{formed}
 use Rattle.pulses.proofs.Encodes.{encoded_pulses}
 use Rattle.pulses.proofs.Packets.{length_pulses}
@@ -282,7 +282,7 @@ module _ (b buffer c : List ℕ) (k : valid b ≡ true) (room : store_bytes ≤ 
   at_rest t = ap (λ (u : Sgb). u.port) (sent-loads t)
 
   -- by the contracts alone: the writes that `encode` answered, at the front of its output, and any calls that `write_joypad` allows
-  pub contracts-round-trip : (out after : List ℕ) (n : ℕ) → Encodes c out (E.Writes n) after
+  pub contracts-round-trip : (out after : List ℕ) (n : ℕ) → Encodes c out (Ok n) after
       → (o : Performed) → Allowed b buffer (map write (take n after)) o → o ≡ returned b buffer c
   contracts-round-trip out after n e o h =
       let z = encoded_pulses c out after n e in
