@@ -15,7 +15,7 @@ use Rattle.state_cells.specs.Cells.{pack_cells, palette_numbers}
 use Rattle.state_cells.proofs.Celling.{length-pack_cells}
 use Rattle.state_spans.specs.State.{State, state_lent}
 use Rattle.state_spans.specs.Coming.{captures_fit, fits, cells_fit, front_from, frozen_from, border_from, block_from}
-use Rattle.state_spans.proofs.Spans.{held-flag, some_bytes}
+use Rattle.state_spans.proofs.Lending.{held-flag, some_bytes}
 use Rattle.state_spans.proofs.Fitted.{Front, front_fitted, Tables, tables_fitted, Captures, captures_fitted, Border, border_fitted}
 use Rattle.state_spans.proofs.Blocks.{front-true, tables-true, rest-true, front-sized, length-frozen, length-border, parts-written}
 use Rattle.state_in.specs.Front.{front_number}

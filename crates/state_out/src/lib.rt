@@ -7,97 +7,53 @@ ghost use Rattle.std.proofs.Math.Option.{some};
 ghost use Rattle.layout.specs.Block.{byte, is_set};
 ghost use Rattle.parts.specs.Parts.{block_bytes, received_at, packet_bytes, store_bytes, preset_bytes, palettes_bytes, system_bytes, tiles_bytes, border_map_bytes, border_palettes_bytes};
 ghost use Rattle.state_spans.specs.State.{field_bytes, map_cells, files_cells, capture_pixels, present_in};
+ghost use Rattle.state_spans.specs.Told.{lent_told, SameRoom};
 ghost use Rattle.state_spans.specs.Going as spec;
 
-use bits::{put, wide};
+use bits::put;
 use state_cells::unpack_cells;
 use state_fits::FIELDS;
+use state_spans::SpansMut;
 
 // ---- room for the longest that each can be: refusal 6
 
-fn front_room(fields: &[u8], packet: &[u8], packets: &[u8], preset: &[u8]) -> bool
-    ensures { result ≡ spec.front_room fields.now packet.now packets.now preset.now }
+fn front_room(room: &SpansMut) -> bool
+    ensures { result ≡ spec.front_room room.now.fields.now room.now.packet.now room.now.packets.now room.now.preset.now }
 {
-    if fields.len() < FIELDS {
-        return false;
-    }
-    if packet.len() < parts::PACKET_BYTES {
-        return false;
-    }
-    if packets.len() < parts::STORE_BYTES {
-        return false;
-    }
-    preset.len() >= parts::PRESET_BYTES
+    room.fields.len() >= FIELDS
+        && room.packet.len() >= parts::PACKET_BYTES
+        && room.packets.len() >= parts::STORE_BYTES
+        && room.preset.len() >= parts::PRESET_BYTES
 }
 
-fn tables_room(
-    palettes: &[u8],
-    attribute_map: &[u8],
-    system_palettes: &[u8],
-    attribute_files: &[u8],
-) -> bool
-    ensures { result ≡ spec.tables_room palettes.now attribute_map.now system_palettes.now attribute_files.now }
+fn tables_room(room: &SpansMut) -> bool
+    ensures { result ≡ spec.tables_room room.now.palettes.now room.now.attribute_map.now room.now.system_palettes.now room.now.attribute_files.now }
 {
-    if palettes.len() < parts::PALETTES_BYTES {
-        return false;
-    }
-    if attribute_map.len() < 4 * parts::MAP_BYTES {
-        return false;
-    }
-    if system_palettes.len() < parts::SYSTEM_BYTES {
-        return false;
-    }
-    attribute_files.len() >= 4 * parts::FILES_BYTES
+    room.palettes.len() >= parts::PALETTES_BYTES
+        && room.attribute_map.len() >= 4 * parts::MAP_BYTES
+        && room.system_palettes.len() >= parts::SYSTEM_BYTES
+        && room.attribute_files.len() >= 4 * parts::FILES_BYTES
 }
 
-fn captures_room(capture: &[u8], frozen_capture: &[u8]) -> bool
-    ensures { result ≡ spec.captures_room capture.now frozen_capture.now }
+fn captures_room(room: &SpansMut) -> bool
+    ensures { result ≡ spec.captures_room room.now.capture.now room.now.frozen_capture.now }
 {
-    if capture.len() < 4 * parts::CAPTURE_BYTES {
-        return false;
-    }
-    frozen_capture.len() >= 4 * parts::CAPTURE_BYTES
+    room.capture.len() >= 4 * parts::CAPTURE_BYTES
+        && room.frozen_capture.len() >= 4 * parts::CAPTURE_BYTES
 }
 
-fn border_room(border_tiles: &[u8], border_map: &[u8], border_palettes: &[u8]) -> bool
-    ensures { result ≡ spec.border_room border_tiles.now border_map.now border_palettes.now }
+fn border_room(room: &SpansMut) -> bool
+    ensures { result ≡ spec.border_room room.now.border_tiles.now room.now.border_map.now room.now.border_palettes.now }
 {
-    if border_tiles.len() < parts::TILES_BYTES {
-        return false;
-    }
-    if border_map.len() < parts::BORDER_MAP_BYTES {
-        return false;
-    }
-    border_palettes.len() >= parts::BORDER_PALETTES_BYTES
+    room.border_tiles.len() >= parts::TILES_BYTES
+        && room.border_map.len() >= parts::BORDER_MAP_BYTES
+        && room.border_palettes.len() >= parts::BORDER_PALETTES_BYTES
 }
 
-pub fn roomy(
-    fields: &[u8],
-    palettes: &[u8],
-    attribute_map: &[u8],
-    system_palettes: &[u8],
-    attribute_files: &[u8],
-    packet: &[u8],
-    packets: &[u8],
-    capture: &[u8],
-    frozen_capture: &[u8],
-    preset: &[u8],
-    border_tiles: &[u8],
-    border_map: &[u8],
-    border_palettes: &[u8],
-) -> bool
-    ensures { result ≡ spec.roomy (spec.lent fields.now palettes.now attribute_map.now system_palettes.now attribute_files.now packet.now packets.now capture.now frozen_capture.now preset.now border_tiles.now border_map.now border_palettes.now) }
+pub fn roomy(room: &SpansMut) -> bool
+    ensures { result ≡ spec.roomy (lent_told room.now) }
 {
-    if !front_room(fields, packet, packets, preset) {
-        return false;
-    }
-    if !tables_room(palettes, attribute_map, system_palettes, attribute_files) {
-        return false;
-    }
-    if !captures_room(capture, frozen_capture) {
-        return false;
-    }
-    border_room(border_tiles, border_map, border_palettes)
+    front_room(room) && tables_room(room) && captures_room(room) && border_room(room)
 }
 
 // ---- the spans
@@ -118,7 +74,7 @@ fn lay_front(
 {
     put(fields, 0, &block[0..FIELDS]);
     put(packet, 0, &block[parts::PACKET..parts::STORE]);
-    let end = parts::STORE + 16 * wide(block[parts::RECEIVED]);
+    let end = parts::STORE + 16 * usize::from(block[parts::RECEIVED]);
     put(packets, 0, &block[parts::STORE..end]);
     if block[parts::PRESET_ON] == 1 {
         put(preset, 0, &block[parts::PRESET..parts::PALETTES]);
@@ -181,35 +137,26 @@ fn lay_border(
 }
 
 // All of them.
-pub fn lay(
-    block: &[u8],
-    fields: &mut [u8],
-    palettes: &mut [u8],
-    attribute_map: &mut [u8],
-    system_palettes: &mut [u8],
-    attribute_files: &mut [u8],
-    packet: &mut [u8],
-    packets: &mut [u8],
-    capture: &mut [u8],
-    frozen_capture: &mut [u8],
-    preset: &mut [u8],
-    border_tiles: &mut [u8],
-    border_map: &mut [u8],
-    border_palettes: &mut [u8],
-)
-    requires { (length block.now ≡ block_bytes) × ((byte received_at block.now ≤ 7) × (spec.roomy (spec.lent fields.old palettes.old attribute_map.old system_palettes.old attribute_files.old packet.old packets.old capture.old frozen_capture.old preset.old border_tiles.old border_map.old border_palettes.old) ≡ true)) }
-    ensures { spec.lent fields.new palettes.new attribute_map.new system_palettes.new attribute_files.new packet.new packets.new capture.new frozen_capture.new preset.new border_tiles.new border_map.new border_palettes.new ≡ spec.laid_all (spec.state_of block.now) (spec.lent fields.old palettes.old attribute_map.old system_palettes.old attribute_files.old packet.old packets.old capture.old frozen_capture.old preset.old border_tiles.old border_map.old border_palettes.old) }
+pub fn lay(block: &[u8], room: &mut SpansMut)
+    requires { (length block.now ≡ block_bytes) × ((byte received_at block.now ≤ 7) × (spec.roomy (lent_told room.old) ≡ true)) }
+    ensures same_room { SameRoom room.new room.old }
+    ensures spans_after { lent_told room.new ≡ spec.laid_all (spec.state_of block.now) (lent_told room.old) }
 {
-    lay_front(block, fields, packet, packets, preset);
+    lay_front(block, room.fields, room.packet, room.packets, room.preset);
     lay_tables(
         block,
-        palettes,
-        attribute_map,
-        system_palettes,
-        attribute_files,
+        room.palettes,
+        room.attribute_map,
+        room.system_palettes,
+        room.attribute_files,
     );
-    lay_captures(block, capture, frozen_capture);
-    lay_border(block, border_tiles, border_map, border_palettes);
+    lay_captures(block, room.capture, room.frozen_capture);
+    lay_border(
+        block,
+        room.border_tiles,
+        room.border_map,
+        room.border_palettes,
+    );
 }
 
 // Which spans are there: all, but for the frozen capture (bit 7) and the preset (bit 8) where there is none. Without these two the twelve bits are

@@ -4,7 +4,7 @@ use mathlib.Core.Path.{◌≡◌, refl, sym, ap, ◌∙◌}
 use mathlib.Core.Bool.{Bool, true, false, ◌&&◌, cond, false≢true}
 use mathlib.Core.List.{List, [], ◌∷◌, ◌++◌}
 use mathlib.Core.Option.{Option, none, some}
-use Prim.Native.Nat.{ℕ, ◌+◌, ◌-◌, ◌*◌, ◌≤◌, ◌<◌}
+use Prim.Native.Nat.{ℕ, ◌-◌, ◌*◌, ◌≤◌}
 use native.Mathlib.Omega.{arith}
 use lib.Dec.{lit<, eqb, leb}
 use lib.ListN.{length, take, drop, get_or, replicate, drop_of_length-le}
@@ -21,7 +21,7 @@ use Rattle.state_spans.specs.State.{State, field_bytes, field, capture_pixels, i
 use Rattle.state_spans.specs.Coming.{fits, cells_fit, kind_taken, store_from, preset_from, front_from, frozen_from, border_from, border_of, whole_border, block_from, from_answer}
 use Rattle.state_spans.specs.Going.{state_of}
 use Rattle.state_spans.specs.Forgotten.{shades_kept, fields_kept, preset_kept, kept}
-use Rattle.state_spans.proofs.Spans.{lent_if}
+use Rattle.state_spans.proofs.Lending.{lent_if}
 use Rattle.state_spans.proofs.Out.{taken-fits}
 use Rattle.state_spans.proofs.Blocks.{thirteen-part, front_of, tables_of, captures-of, lent_again}
 

@@ -3,7 +3,7 @@ use mathlib.Core.Path.{◌≡◌, refl, sym, ap, ◌∙◌}
 use mathlib.Core.Bool.{Bool, true, false, ◌&&◌, cond}
 use mathlib.Core.List.{List, [], ◌∷◌, ◌++◌, map, append_assoc}
 use mathlib.Core.Option.{Option, none, some}
-use Prim.Native.Nat.{ℕ, ◌+◌, ◌-◌, ◌≤◌, ◌<◌}
+use Prim.Native.Nat.{ℕ, ◌-◌, ◌≤◌, ◌<◌}
 use native.Mathlib.Omega.{arith}
 use lib.Dec.{lit<}
 use lib.ListN.{length, take, drop, get_or, set, replicate, length-append, length-replicate}
@@ -15,7 +15,7 @@ use Rattle.parts.specs.Parts.{block_bytes, preset_on_at, header_bytes, packet_by
 use Rattle.state_cells.proofs.Celling.{length-pack_cells}
 use Rattle.state_spans.specs.State.{State, is_there, bytes_in}
 use Rattle.state_spans.specs.Coming.{front_fits, tables_fit, captures_fit, border_fits, fits, header_from, store_from, preset_from, front_from, frozen_from, border_from, border_of, whole_border, parts_from, block_from}
-use Rattle.state_spans.proofs.Spans.{lent_if}
+use Rattle.state_spans.proofs.Lending.{lent_if}
 use Rattle.state_spans.proofs.Fitted.{Front, front_fitted, Tables, tables_fitted, Captures, captures_fitted, Border, border_fitted}
 
 -- ---- a list in parts

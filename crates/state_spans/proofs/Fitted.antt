@@ -13,7 +13,7 @@ use Rattle.layout.specs.Block.{is_set, flat}
 use Rattle.parts.specs.Parts.{received_at, preset_on_at, packet_bytes, preset_bytes, palettes_bytes, system_bytes, tiles_bytes, border_map_bytes, border_palettes_bytes}
 use Rattle.state_spans.specs.State.{field_bytes, map_cells, files_cells, capture_pixels, bytes_in}
 use Rattle.state_spans.specs.Coming.{has, may_have, packets_fit, preset_fits, front_fits, tables_fit, captures_fit, whole_border, border_fits, header_from, store_from, preset_from, front_from, border_from}
-use Rattle.state_spans.proofs.Spans.{lent_if, has_there, has-long, has-bytes, some_bytes, may-long, whole-bits, border-lengths}
+use Rattle.state_spans.proofs.Lending.{lent_if, has_there, has-long, has-bytes, some_bytes, may-long, whole-bits, border-lengths}
 
 -- ---- what stands before the palettes
 

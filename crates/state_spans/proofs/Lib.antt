@@ -1,4 +1,4 @@
-pub mod Spans
+pub mod Lending
 pub mod Fitted
 pub mod Blocks
 pub mod Stored

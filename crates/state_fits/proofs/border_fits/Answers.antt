@@ -1,34 +1,36 @@
 -- A border of which a span is missing is not looked at, and else the lengths are.
-use borrow.Author.Tests.{eq-eqb, ne_eqb}
-use mathlib.Core.Path.{sym, ◌∙◌}
-use Rattle.state_spans.proofs.Spans.{border-open, border-lengths}
-use Rattle.bits.specs.Bit.{bit_of}
+use mathlib.Core.Bool.{true, ◌&&◌}
+use mathlib.Core.Path.{◌≡◌, refl, sym, ◌∙◌}
+use lib.Dec.{eqb}
+use lib.ListN.{length}
+use Rattle.std.proofs.Common.{arith}
+use Rattle.std.proofs.lemmas.Grind.{common_steps}
+use Rattle.parts.specs.Parts.{tiles_bytes, border_map_bytes, border_palettes_bytes}
+use Rattle.state_spans.specs.Told.{span_told}
+use Rattle.state_spans.specs.Coming.{border_fits}
+use Rattle.state_spans.proofs.Lending.{border-lengths}
 use Rattle.state_fits.proofs.border_fits.Goals as goal
 
-pub returns-then-not-whole_border : goal.returns-then-not-whole_border
-returns-then-not-whole_border c = let a = c.args in
-    let p = bit_of 9 a.present in
-    let q = bit_of 10 a.present in
-    let r = bit_of 11 a.present in
-    border-open p q r a.border_tiles.now a.border_map.now a.border_palettes.now (sym c.whole_border.ensures ∙ c.if-not-whole_border.true)
+pub returns-in_default : goal.returns-in_default
+unfolding border_fits
+returns-in_default c = grind (arith, common_steps)
 
-pub returns-then-border_tiles-ne-TILES_BYTES : goal.returns-then-border_tiles-ne-TILES_BYTES
-returns-then-border_tiles-ne-TILES_BYTES c = let a = c.args in
-    let p = bit_of 9 a.present in
-    let q = bit_of 10 a.present in
-    let r = bit_of 11 a.present in
-    rw (ne_eqb _ _ c.if-border_tiles-ne-TILES_BYTES.true) at (border-lengths p q r a.border_tiles.now a.border_map.now a.border_palettes.now (sym c.whole_border.ensures ∙ c.if-not-whole_border.false))
+pub returns-then-border-eq-BORDER_MAP_BYTES : goal.returns-then-border-eq-BORDER_MAP_BYTES
+returns-then-border-eq-BORDER_MAP_BYTES c =
+    let b = c.in-Some.border in
+    let s = c.args.spans.now in
+    let e = c.in-Some.ensures in
+    let lengths : (eqb (length b.tiles.now) tiles_bytes && (eqb (length b.map.now) border_map_bytes && eqb (length b.palettes.now) border_palettes_bytes))
+    ≡ border_fits (span_told s.border_tiles) (span_told s.border_map) (span_told s.border_palettes) =
+    border-lengths true true true b.tiles.now b.map.now b.palettes.now refl ∙ (λ i. border_fits (sym e.0 i) (sym e.1.0 i) (sym e.1.1 i)) in
+    grind (arith, common_steps, lengths)
 
-pub returns-then-border_map-ne-BORDER_MAP_BYTES : goal.returns-then-border_map-ne-BORDER_MAP_BYTES
-returns-then-border_map-ne-BORDER_MAP_BYTES c = let a = c.args in
-    let p = bit_of 9 a.present in
-    let q = bit_of 10 a.present in
-    let r = bit_of 11 a.present in
-    rw (eq-eqb _ _ c.if-border_tiles-ne-TILES_BYTES.false, ne_eqb _ _ c.if-border_map-ne-BORDER_MAP_BYTES.true) at (border-lengths p q r a.border_tiles.now a.border_map.now a.border_palettes.now (sym c.whole_border.ensures ∙ c.if-not-whole_border.false))
-
-pub returns : goal.returns
-returns c = let a = c.args in
-    let p = bit_of 9 a.present in
-    let q = bit_of 10 a.present in
-    let r = bit_of 11 a.present in
-    rw (eq-eqb _ _ c.if-border_tiles-ne-TILES_BYTES.false, eq-eqb _ _ c.if-border_map-ne-BORDER_MAP_BYTES.false) at (border-lengths p q r a.border_tiles.now a.border_map.now a.border_palettes.now (sym c.whole_border.ensures ∙ c.if-not-whole_border.false))
+pub returns-else-border-eq-BORDER_MAP_BYTES : goal.returns-else-border-eq-BORDER_MAP_BYTES
+returns-else-border-eq-BORDER_MAP_BYTES c =
+    let b = c.in-Some.border in
+    let s = c.args.spans.now in
+    let e = c.in-Some.ensures in
+    let lengths : (eqb (length b.tiles.now) tiles_bytes && (eqb (length b.map.now) border_map_bytes && eqb (length b.palettes.now) border_palettes_bytes))
+    ≡ border_fits (span_told s.border_tiles) (span_told s.border_map) (span_told s.border_palettes) =
+    border-lengths true true true b.tiles.now b.map.now b.palettes.now refl ∙ (λ i. border_fits (sym e.0 i) (sym e.1.0 i) (sym e.1.1 i)) in
+    grind (arith, common_steps, lengths)

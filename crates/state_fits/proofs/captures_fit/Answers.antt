@@ -1,12 +1,13 @@
--- One after the other.
-use mathlib.Core.Path.{sym, ◌∙◌}
+-- Each way out is the definition's.
+use Rattle.std.proofs.Common.{arith}
+use Rattle.std.proofs.lemmas.Grind.{common_steps}
 use Rattle.state_spans.specs.Coming.{captures_fit}
 use Rattle.state_fits.proofs.captures_fit.Goals as goal
 
-pub returns-then-not-has : goal.returns-then-not-has
+pub returns-then-has : goal.returns-then-has
 unfolding captures_fit
-returns-then-not-has c = let e = sym c.has.ensures ∙ c.if-not-has.true in rw e
+returns-then-has c = grind (arith, common_steps)
 
-pub returns : goal.returns
+pub returns-else-has : goal.returns-else-has
 unfolding captures_fit
-returns c = let e = sym c.has.ensures ∙ c.if-not-has.false in rw e c.may_have.ensures
+returns-else-has c = grind (arith, common_steps)

@@ -1,25 +1,13 @@
--- One after the other.
-use borrow.Author.Tests.{eq-eqb, ne_eqb}
-use mathlib.Core.Path.{sym, ◌∙◌}
+-- Each way out is the definition's.
+use Rattle.std.proofs.Common.{arith}
+use Rattle.std.proofs.lemmas.Grind.{common_steps}
 use Rattle.state_spans.specs.Coming.{front_fits}
 use Rattle.state_fits.proofs.front_fits.Goals as goal
 
-pub returns-then-fields-ne-FIELDS : goal.returns-then-fields-ne-FIELDS
+pub returns-then-packets_fit : goal.returns-then-packets_fit
 unfolding front_fits
-returns-then-fields-ne-FIELDS c = rw (ne_eqb _ _ c.if-fields-ne-FIELDS.true)
+returns-then-packets_fit c = grind (arith, common_steps)
 
-pub returns-then-not-has : goal.returns-then-not-has
+pub returns-else-packets_fit : goal.returns-else-packets_fit
 unfolding front_fits
-returns-then-not-has c = let e = sym c.has.ensures ∙ c.if-not-has.true in rw (eq-eqb _ _ c.if-fields-ne-FIELDS.false, e)
-
-pub returns-then-not-packets_fit : goal.returns-then-not-packets_fit
-unfolding front_fits
-returns-then-not-packets_fit c = let e = sym c.has.ensures ∙ c.if-not-has.false in
-    let f = sym c.packets_fit.ensures ∙ c.if-not-packets_fit.true in
-    rw (eq-eqb _ _ c.if-fields-ne-FIELDS.false, e, f)
-
-pub returns : goal.returns
-unfolding front_fits
-returns c = let e = sym c.has.ensures ∙ c.if-not-has.false in
-    let f = sym c.packets_fit.ensures ∙ c.if-not-packets_fit.false in
-    rw (eq-eqb _ _ c.if-fields-ne-FIELDS.false, e, f) c.preset_fits.ensures
+returns-else-packets_fit c = grind (arith, common_steps)

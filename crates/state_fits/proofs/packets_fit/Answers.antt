@@ -1,15 +1,13 @@
--- Over seven there are none, and else it is a span like others.
-use borrow.Author.Tests.{lt-leb, le-leb}
-use mathlib.Core.Path.{ap, ◌∙◌}
-use Prim.Native.Nat.{ℕ, ◌*◌}
-use Rattle.state_spans.specs.Coming.{has, packets_fit}
-use Rattle.state_spans.specs.State.{span_if}
+-- Each way out is the definition's.
+use Rattle.std.proofs.Common.{arith}
+use Rattle.std.proofs.lemmas.Grind.{common_steps}
+use Rattle.state_spans.specs.Coming.{packets_fit}
 use Rattle.state_fits.proofs.packets_fit.Goals as goal
 
-pub returns-then-received-gt7 : goal.returns-then-received-gt7
+pub returns-then-received-le7 : goal.returns-then-received-le7
 unfolding packets_fit
-returns-then-received-gt7 c = rw (lt-leb _ _ c.if-received-gt7.true)
+returns-then-received-le7 c = grind (arith, common_steps)
 
-pub returns : goal.returns
+pub returns-else-received-le7 : goal.returns-else-received-le7
 unfolding packets_fit
-returns c = rw (le-leb _ _ c.if-received-gt7.false) (c.has.ensures ∙ ap (λ (n : ℕ). has (16 * n) (span_if 5 c.args.present c.args.packets.now)) c.wide.ensures.0)
+returns-else-received-le7 c = grind (arith, common_steps)

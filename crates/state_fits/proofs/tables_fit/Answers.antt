@@ -1,28 +1,13 @@
--- One after the other.
-use mathlib.Core.Path.{sym, ◌∙◌}
+-- Each way out is the definition's.
+use Rattle.std.proofs.Common.{arith}
+use Rattle.std.proofs.lemmas.Grind.{common_steps}
 use Rattle.state_spans.specs.Coming.{tables_fit}
 use Rattle.state_fits.proofs.tables_fit.Goals as goal
 
-pub returns-then-not-has : goal.returns-then-not-has
+pub returns-then-has-3 : goal.returns-then-has-3
 unfolding tables_fit
-returns-then-not-has c = let e = sym c.has.ensures ∙ c.if-not-has.true in rw e
+returns-then-has-3 c = grind (arith, common_steps)
 
-pub returns-then-not-has-2 : goal.returns-then-not-has-2
+pub returns-else-has-3 : goal.returns-else-has-3
 unfolding tables_fit
-returns-then-not-has-2 c = let e = sym c.has.ensures ∙ c.if-not-has.false in
-    let f = sym c.has-2.ensures ∙ c.if-not-has-2.true in
-    rw (e, f)
-
-pub returns-then-not-has-3 : goal.returns-then-not-has-3
-unfolding tables_fit
-returns-then-not-has-3 c = let e = sym c.has.ensures ∙ c.if-not-has.false in
-    let f = sym c.has-2.ensures ∙ c.if-not-has-2.false in
-    let g = sym c.has-3.ensures ∙ c.if-not-has-3.true in
-    rw (e, f, g)
-
-pub returns : goal.returns
-unfolding tables_fit
-returns c = let e = sym c.has.ensures ∙ c.if-not-has.false in
-    let f = sym c.has-2.ensures ∙ c.if-not-has-2.false in
-    let g = sym c.has-3.ensures ∙ c.if-not-has-3.false in
-    rw (e, f, g) c.has-4.ensures
+returns-else-has-3 c = grind (arith, common_steps)

@@ -1,16 +1,17 @@
--- Bit after bit.
-use mathlib.Core.Path.{sym, ◌∙◌}
+-- Where a span is missing the border is not whole.
+use borrow.Author.Rules.{rules}
+use Rattle.state_spans.specs.State.{is_there}
+use Rattle.state_spans.specs.Coming.{whole_border}
 use Rattle.state_fits.proofs.whole_border.Goals as goal
 
-pub returns-then-not-there : goal.returns-then-not-there
-returns-then-not-there c = let e = sym c.there.ensures ∙ c.if-not-there.true in rw e
+pub returns-in_err-spans : goal.returns-in_err-spans
+unfolding whole_border is_there
+returns-in_err-spans c = search rules
 
-pub returns-then-not-there-2 : goal.returns-then-not-there-2
-returns-then-not-there-2 c = let e = sym c.there.ensures ∙ c.if-not-there.false in
-    let f = sym c.there-2.ensures ∙ c.if-not-there-2.true in
-    rw (e, f)
+pub returns-in_err-spans-2 : goal.returns-in_err-spans-2
+unfolding whole_border is_there
+returns-in_err-spans-2 c = search rules
 
-pub returns : goal.returns
-returns c = let e = sym c.there.ensures ∙ c.if-not-there.false in
-    let f = sym c.there-2.ensures ∙ c.if-not-there-2.false in
-    rw (e, f) c.there-3.ensures
+pub returns-in_err-spans-3 : goal.returns-in_err-spans-3
+unfolding whole_border is_there
+returns-in_err-spans-3 c = search rules

@@ -1,12 +1,13 @@
--- One after the other.
-use borrow.Author.Tests.{lt-leb, le-leb}
+-- Each way out is the definition's.
+use Rattle.std.proofs.Common.{arith}
+use Rattle.std.proofs.lemmas.Grind.{common_steps}
 use Rattle.state_spans.specs.Going.{captures_room}
 use Rattle.state_out.proofs.captures_room.Goals as goal
 
-pub returns-then-capture : goal.returns-then-capture
+pub returns-then-room : goal.returns-then-room
 unfolding captures_room
-returns-then-capture c = rw (lt-leb _ _ c.if-capture.true)
+returns-then-room c = grind (arith, common_steps)
 
-pub returns : goal.returns
+pub returns-else-room : goal.returns-else-room
 unfolding captures_room
-returns c = rw (le-leb _ _ c.if-capture.false)
+returns-else-room c = grind (arith, common_steps)

@@ -1,20 +1,13 @@
--- One after the other.
-use borrow.Author.Tests.{lt-leb, le-leb}
+-- Each way out is the definition's.
+use Rattle.std.proofs.Common.{arith}
+use Rattle.std.proofs.lemmas.Grind.{common_steps}
 use Rattle.state_spans.specs.Going.{front_room}
 use Rattle.state_out.proofs.front_room.Goals as goal
 
-pub returns-then-fields-lt-FIELDS : goal.returns-then-fields-lt-FIELDS
+pub returns-then-room-ge-STORE_BYTES : goal.returns-then-room-ge-STORE_BYTES
 unfolding front_room
-returns-then-fields-lt-FIELDS c = rw (lt-leb _ _ c.if-fields-lt-FIELDS.true)
+returns-then-room-ge-STORE_BYTES c = grind (arith, common_steps)
 
-pub returns-then-packet-lt-PACKET_BYTES : goal.returns-then-packet-lt-PACKET_BYTES
+pub returns-else-room-ge-STORE_BYTES : goal.returns-else-room-ge-STORE_BYTES
 unfolding front_room
-returns-then-packet-lt-PACKET_BYTES c = rw (le-leb _ _ c.if-fields-lt-FIELDS.false, lt-leb _ _ c.if-packet-lt-PACKET_BYTES.true)
-
-pub returns-then-packets-lt-STORE_BYTES : goal.returns-then-packets-lt-STORE_BYTES
-unfolding front_room
-returns-then-packets-lt-STORE_BYTES c = rw (le-leb _ _ c.if-fields-lt-FIELDS.false, le-leb _ _ c.if-packet-lt-PACKET_BYTES.false, lt-leb _ _ c.if-packets-lt-STORE_BYTES.true)
-
-pub returns : goal.returns
-unfolding front_room
-returns c = rw (le-leb _ _ c.if-fields-lt-FIELDS.false, le-leb _ _ c.if-packet-lt-PACKET_BYTES.false, le-leb _ _ c.if-packets-lt-STORE_BYTES.false)
+returns-else-room-ge-STORE_BYTES c = grind (arith, common_steps)

@@ -25,7 +25,7 @@ shape_of-preset c = c.put-then-block-eq1.auto.dst
 pub returns-then-block-eq1 : goal.returns-then-block-eq1
 unfolding state_of laid held
 returns-then-block-eq1 c = let b = c.args.block.now in
-    let n : store_at + 16 * c.wide.result - store_at ≡ 16 * byte received_at b = omega (arith, c.wide.ensures.0) in
+    let n : store_at + 16 * c.from.result - store_at ≡ 16 * byte received_at b = omega (arith, c.from.ensures) in
     let packets = c.put-3.ensures ∙ ap (λ (k : ℕ). laid (some (part store_at k b)) c.args.packets.now) n in
     record { fields_after = c.put.ensures; packet_after = c.put-2.ensures; packets_after = packets; preset_after = rw (eq-eqb _ _ c.if-block-eq1.true) c.put-then-block-eq1.ensures }
 
@@ -41,6 +41,6 @@ shape_of-packets-else-block-eq1 c = c.put-3.auto.dst
 pub returns-else-block-eq1 : goal.returns-else-block-eq1
 unfolding state_of laid held
 returns-else-block-eq1 c = let b = c.args.block.now in
-    let n : store_at + 16 * c.wide.result - store_at ≡ 16 * byte received_at b = omega (arith, c.wide.ensures.0) in
+    let n : store_at + 16 * c.from.result - store_at ≡ 16 * byte received_at b = omega (arith, c.from.ensures) in
     let packets = c.put-3.ensures ∙ ap (λ (k : ℕ). laid (some (part store_at k b)) c.args.packets.now) n in
     record { fields_after = c.put.ensures; packet_after = c.put-2.ensures; packets_after = packets; preset_after = rw (ne_eqb _ _ c.if-block-eq1.false) }
