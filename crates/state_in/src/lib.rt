@@ -5,6 +5,7 @@
 
 ghost use Rattle.std.specs.Prelude.{◌≡◌, true, [], ◌∷◌, ◌-◌, ◌*◌, ◌≤◌, length, get_or, replicate};
 ghost use Rattle.bits.specs.Over.{over};
+ghost use Rattle.refusal.specs.Codes.{code_or_0};
 ghost use Rattle.layout.specs.Block.{flag, flat, is_held, is_set};
 ghost use Rattle.parts.specs.Parts.{block_bytes, packet_bytes, store_bytes, preset_on_at, preset_bytes, palettes_at, palettes_bytes, map_at, map_bytes, system_at, system_bytes, files_at, files_bytes, live_at, capture_bytes, frozen_at, tiles_at, tiles_bytes, border_map_at, border_map_bytes, border_palettes_at, border_palettes_bytes};
 ghost use Rattle.state_cells.specs.Cells.{pack_cells};
@@ -16,6 +17,7 @@ ghost use Rattle.state_in.specs.Front.{front_number};
 use bits::{clear, put};
 use block_broken::broken_front;
 use block_valid::mask_allows;
+use refusal::{Refusal, Rule};
 use state_cells::pack_cells;
 use state_fits::whole_border;
 use state_spans::{Spans, bytes_in};
@@ -53,20 +55,17 @@ fn fill_header(front: &mut [u8], fields: &[u8], frozen: bool)
     front[parts::FROZEN_ON] = u8::from(frozen);
 }
 
-// The first rule that the block with this front would break, and its byte, as the number of a refusal; 0 if there is none. Of V6 it asks only
-// whether the mask mode and byte 12 go together: the capture of a state is zeros where none is there.
-pub fn broken_rule(front: &[u8]) -> u32
+// The first rule that the block with this front would break, and its byte, as a refusal. Of V6 it asks only whether the mask mode and byte 12 go
+// together: the capture of a state is zeros where none is there.
+pub fn broken_rule(front: &[u8]) -> Result<(), Refusal>
     requires { length front.now ≡ palettes_at }
-    ensures { result ≡ front_number front.now }
+    ensures { code_or_0 result ≡ front_number front.now }
 {
-    let no = broken_front(front);
-    if no != 0 {
-        return no;
-    }
+    broken_front(front)?;
     if !mask_allows(front[parts::MASK], front[parts::FROZEN_ON]) {
-        return 26;
+        return Err(Refusal::Broken(Rule::V6, parts::MASK as u16));
     }
-    0
+    Ok(())
 }
 
 // ---- the parts of the block
