@@ -3,12 +3,15 @@
 --   the rest       the value, or the offset of a refusal that has one; else 0
 -- So a call that can only be refused answers the refusal or 0, as `new`, `post_boot` and `check` do outright.
 -- That different answers give different numbers is proofs/Apart of the crate `export`.
-use Rattle.std.specs.Prelude.{ℕ, ◌+◌, ◌*◌, ◌<◌, ◌≤◌, Bool, cond}
+use Rattle.std.specs.Prelude.{ℕ, ◌+◌, ◌*◌, ◌<◌, ◌≤◌, Bool, cond, Some, None}
+use Rattle.std.specs.Prelude as code
 use Rattle.std.proofs.Math.Option.{Option, none, some}
 use Rattle.pulses.specs.Answer.{Answer, refused, given}
 use Rattle.parts.specs.Parts.{capture_bytes}
 use Rattle.unit.specs.Plays.{Taken}
 use Rattle.log_line.specs.Calls.{Content, writes_of, one_screen}
+use Rattle.log_line.specs.declared.Line.{Line}
+use Rattle.log_line.specs.declared.Line.TheVariants as L
 
 -- an answer whose value crosses as `code` tells
 unfoldable pub coded : {A : Type 0} → (A → ℕ) → Answer A → ℕ
@@ -40,6 +43,17 @@ run t = value (8 * t.writes + packets_number t.packets)
 unfoldable pub content : Content → ℕ
 content (writes_of n) = value (8 * n + 1)
 content one_screen = value (8 * capture_bytes + 2)
+
+-- ---- the same of what the code answers
+
+-- as `number` tells, where there is a value
+abbrev pub or_none : {A : Type 0} → (A → ℕ) → code.Option A → ℕ
+or_none number None = 128
+or_none number (Some a) = number a
+
+abbrev pub content_of : Line → Content
+content_of (L.Writes n) = writes_of n
+content_of L.Screen = one_screen
 
 -- ---- what crosses whole
 

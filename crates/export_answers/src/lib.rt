@@ -1,20 +1,19 @@
-// Each enum that a public call answers, as the number that crosses (specs/Coded).
+// What each public call answers, as the number that crosses (specs/Coded).
 #![tactic(auto)]
 
-ghost use Rattle.std.specs.Prelude.{◌≡◌, ◌+◌, ◌*◌, ◌<◌, ◌≤◌};
-ghost use Rattle.pulses.specs.Answer.{encoded_answer, verdict_answer};
-ghost use Rattle.log_line.specs.Calls.{line_told};
-ghost use Rattle.unit.specs.Answers.{written_told, played_told, shown_told};
-ghost use Rattle.view.specs.Answers.{number_told, colour_told, entry_told, border_told};
-ghost use Rattle.transfer.specs.Pending.{landed_of};
-ghost use Rattle.export_answers.specs.Coded.{coded, value, optional, truth, run, content, Fits, RunFits, ContentFits};
+ghost use Rattle.std.specs.Prelude.{◌≡◌, ◌+◌, ◌*◌, ◌<◌, ◌≤◌, ℕ, IfOk, IfSome};
+ghost use Rattle.refusal.specs.Codes.{told_by};
+ghost use Rattle.transfer.specs.Pending.{number_of};
+ghost use Rattle.unit.specs.Answers.{taken_as};
+ghost use Rattle.pulses.specs.Answer.{given};
+ghost use Rattle.export_answers.specs.Coded.{coded, value, or_none, truth, run, content, content_of, Fits, RunFits, ContentFits};
 
+use colour::{BorderMapEntry, Rgb555};
 use log_line::Line;
 use parts::CAPTURE_BYTES;
-use pulses::{Conformance, Encoded};
-use transfer::pending::Landed;
-use unit::{Played, Shown, Written};
-use view::{Border, Colour, Entry, Number};
+use refusal::Refusal;
+use transfer::pending::Transfer;
+use unit::Played;
 
 pub const NONE: u32 = 128;
 
@@ -31,114 +30,139 @@ fn eighths(n: usize, k: u8) -> u32
     requires { (n ≤ 1048576) × (k < 8) }
     ensures { result ≡ value (8 * n + k) }
 {
-    value((8 * n) as u32 + k as u32)
+    value((8 * n) as u32 + u32::from(k))
 }
 
-pub fn of_written(told: Written) -> u32
-    ensures { result ≡ coded optional (written_told told) }
+// The refusal's own number, or what the value crosses as.
+#[tactic(auto, unfolding(crate::specs::Coded::coded))]
+pub fn coded<T: Crosses>(told: Result<T, Refusal>) -> u32
+    requires { IfOk told (λ v. T.fits v) }
+    ensures { result ≡ coded T.number (told_by (λ v. v) told) }
 {
     match told {
-        Written::Refused(r) => r.0,
-        Written::Nothing => NONE,
-        Written::Command(n) => value(n as u32),
+        Ok(v) => v.cross(),
+        Err(r) => r.code(),
     }
 }
 
-pub fn of_played(told: Played) -> u32
-    requires { RunFits (played_told told) }
-    ensures { result ≡ coded run (played_told told) }
-{
-    match told {
-        Played::Refused(r) => r.0,
-        Played::Took(at) => eighths(at, 0),
-        Played::Command(at, n) => eighths(at, n),
+// A value that a public call answers. It crosses as a number if it fits.
+pub trait Crosses {
+    ghost fits: { Self → Type 0 };
+
+    ghost number: { Self → ℕ };
+
+    fn cross(self) -> u32
+        requires { fits self }
+        ensures { result ≡ number self };
+}
+
+// Of a call that can only be refused.
+impl Crosses for () {
+    ghost fits = { λ u. Unit {0} };
+
+    ghost number = { λ u. 0 };
+
+    fn cross(self) -> u32 {
+        0
     }
 }
 
-pub fn of_shown(told: Shown) -> u32
-    ensures { result ≡ coded optional (shown_told told) }
-{
-    match told {
-        Shown::Refused(r) => r.0,
-        Shown::Took(l) => of_landed(l),
+impl Crosses for usize {
+    ghost fits = { λ v. Fits (given v) };
+
+    ghost number = { value };
+
+    #[tactic(auto, unfolding(crate::specs::Coded::Fits))]
+    fn cross(self) -> u32 {
+        value(self as u32)
     }
 }
 
-fn of_landed(l: Landed) -> u32
-    ensures { result ≡ optional (landed_of l) }
-{
-    match l {
-        Landed::Nothing => NONE,
-        Landed::Page(transfer) => value(transfer.number() as u32),
+impl Crosses for u8 {
+    ghost fits = { λ v. Unit {0} };
+
+    ghost number = { value };
+
+    fn cross(self) -> u32 {
+        value(u32::from(self))
     }
 }
 
-pub fn of_number(told: Number) -> u32
-    requires { Fits (number_told told) }
-    ensures { result ≡ coded value (number_told told) }
-{
-    match told {
-        Number::Refused(r) => r.0,
-        Number::Is(v) => value(v as u32),
+impl Crosses for bool {
+    ghost fits = { λ b. Unit {0} };
+
+    ghost number = { truth };
+
+    #[tactic(auto, unfolding(crate::specs::Coded::truth))]
+    fn cross(self) -> u32 {
+        value(u32::from(self))
     }
 }
 
-pub fn of_colour(told: Colour) -> u32
-    ensures { result ≡ coded value (colour_told told) }
-{
-    match told {
-        Colour::Refused(r) => r.0,
-        Colour::Is(c) => value(c.0 as u32),
+impl Crosses for Rgb555 {
+    ghost fits = { λ c. Unit {0} };
+
+    ghost number = { λ c. value c.0 };
+
+    fn cross(self) -> u32 {
+        value(u32::from(self.0))
     }
 }
 
-pub fn of_entry(told: Entry) -> u32
-    ensures { result ≡ coded value (entry_told told) }
-{
-    match told {
-        Entry::Refused(r) => r.0,
-        Entry::Is(w) => value(w.0 as u32),
+impl Crosses for BorderMapEntry {
+    ghost fits = { λ w. Unit {0} };
+
+    ghost number = { λ w. value w.0 };
+
+    fn cross(self) -> u32 {
+        value(u32::from(self.0))
     }
 }
 
-pub fn of_border(told: Border) -> u32
-    ensures { result ≡ coded optional (border_told told) }
-{
-    match told {
-        Border::Refused(r) => r.0,
-        Border::Transparent => NONE,
-        Border::Opaque(c) => value(c.0 as u32),
+impl Crosses for Transfer {
+    ghost fits = { λ t. Unit {0} };
+
+    ghost number = { λ t. value (number_of t) };
+
+    fn cross(self) -> u32 {
+        value(u32::from(self.number()))
     }
 }
 
-pub fn of_encoded(told: Encoded) -> u32
-    requires { Fits (encoded_answer told) }
-    ensures { result ≡ coded value (encoded_answer told) }
-{
-    match told {
-        Encoded::Malformed => 5,
-        Encoded::Short => 6,
-        Encoded::Writes(n) => value(n as u32),
+impl<T: Crosses> Crosses for Option<T> {
+    ghost fits = { λ o. IfSome o (λ v. T.fits v) };
+
+    ghost number = { or_none T.number };
+
+    fn cross(self) -> u32 {
+        match self {
+            None => NONE,
+            Some(v) => v.cross(),
+        }
     }
 }
 
-pub fn of_verdict(told: Conformance) -> u32
-    ensures { result ≡ coded truth (verdict_answer told) }
-{
-    match told {
-        Conformance::Malformed => 5,
-        Conformance::Conforms => value(1),
-        Conformance::Differs => value(0),
+impl Crosses for Played {
+    ghost fits = { λ p. RunFits (given (taken_as p)) };
+
+    ghost number = { λ p. run (taken_as p) };
+
+    #[tactic(auto, unfolding(crate::specs::Coded::RunFits, crate::specs::Coded::run, crate::specs::Coded::packets_number))]
+    fn cross(self) -> u32 {
+        eighths(self.writes, self.packets.unwrap_or(0))
     }
 }
 
-pub fn of_line(told: Line) -> u32
-    requires { ContentFits (line_told told) }
-    ensures { result ≡ coded content (line_told told) }
-{
-    match told {
-        Line::Refused(n) => n as u32,
-        Line::Writes(n) => eighths(n, 1),
-        Line::Screen => eighths(CAPTURE_BYTES, 2),
+impl Crosses for Line {
+    ghost fits = { λ l. ContentFits (given (content_of l)) };
+
+    ghost number = { λ l. content (content_of l) };
+
+    #[tactic(auto, unfolding(crate::specs::Coded::ContentFits, crate::specs::Coded::content))]
+    fn cross(self) -> u32 {
+        match self {
+            Line::Writes(n) => eighths(n, 1),
+            Line::Screen => eighths(CAPTURE_BYTES, 2),
+        }
     }
 }
