@@ -43,9 +43,9 @@ fn land_half(block: &mut [u8], upper_half: bool, screen: &[u8])
 {
     if upper_half {
         landing::land_tiles(&mut block[UPPER_TILES..BORDER_MAP], screen);
-        return;
+    } else {
+        landing::land_tiles(&mut block[TILES..UPPER_TILES], screen);
     }
-    landing::land_tiles(&mut block[TILES..UPPER_TILES], screen);
 }
 
 // Each landing is lent its own part, and nothing else of the block.
@@ -65,9 +65,8 @@ fn land(block: &mut [u8], landed: Option<Transfer>, screen: &[u8])
     requires { Valid block.old × (length screen.now ≡ capture_bytes) }
     ensures { block.new ≡ snes_block (rules.landed landed screen.now) block.old }
 {
-    match landed {
-        None => {}
-        Some(t) => land_page(block, t, screen),
+    if let Some(t) = landed {
+        land_page(block, t, screen);
     }
 }
 

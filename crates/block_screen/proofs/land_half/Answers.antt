@@ -6,5 +6,5 @@ use Rattle.block_screen.proofs.land_half.Goals as goal
 pub returns-then-upper_half : goal.returns-then-upper_half
 returns-then-upper_half c = upper-landed _ c.requires.0 _ _ c.land_tiles.ensures ∙ rw c.if-upper_half.true
 
-pub returns : goal.returns
-returns c = lower-landed _ c.requires.0 _ _ c.land_tiles-2.ensures ∙ rw c.if-upper_half.false
+pub returns-else-upper_half : goal.returns-else-upper_half
+returns-else-upper_half c = lower-landed _ c.requires.0 _ _ c.land_tiles-else-upper_half.ensures ∙ rw c.if-upper_half.false
