@@ -3,15 +3,15 @@
 // commands are in the crate `block_plain`. Every worker of a command requires a valid block and leaves one.
 #![tactic(auto)]
 
-ghost use Rattle.std.specs.Prelude.{◌≡◌, length};
+ghost use Rattle.std.specs.Prelude.{◌≡◌, ℕ, List, length};
 ghost use Rattle.attribute_map.specs.Data.{Whole};
 ghost use Rattle.palettes.specs.Palettes as palette;
 ghost use Rattle.commands.specs.Command.{fixed, pal_set, attr_set, freeze, transfer};
 ghost use Rattle.commands.specs.Files.{pal_set_map, attr_set_map};
-ghost use Rattle.parts.specs.Parts.{block_bytes};
+ghost use Rattle.parts.specs.Parts.{block_bytes, map_bytes, files_bytes};
 ghost use Rattle.rules.specs.Carry.{with_palettes, with_map, without_mask};
 ghost use Rattle.block_plain.specs.Carrying.{Valid, carried_block};
-ghost use Rattle.block_fixed.specs.Changing.{changed_block, pending_stored};
+ghost use Rattle.block_fixed.specs.Changing.{changed_block, pending_stored, Filing};
 
 use block_plain::end_preset;
 use parts::{
@@ -64,15 +64,30 @@ fn take_palettes(block: &mut [u8], d: &[u8])
     bits::put(block, PALETTES, &chosen);
 }
 
+// The map after a command that asks for a file: copied out, changed from the files, and put back.
+fn change_map<F: Fn(&mut [u8], &[u8])>(block: &mut [u8], change: F)
+    requires valid { Valid block.old }
+    requires callable { (map files : _) → length map.now ≡ map_bytes → length files.now ≡ files_bytes → F.pre change map files }
+    ensures { (f : List ℕ → List ℕ → List ℕ) → Filing f → ((map files r after : _) → F.post change map files r after → after.now ≡ f files.now map.now) → block.new ≡ changed_block (λ s g. with_map (f s.files g.map) g) block.old }
+{
+    let mut map = [0u8; MAP_BYTES];
+    bits::put(&mut map, 0, &block[MAP..SYSTEM]);
+    change(&mut map, &block[FILES..LIVE]);
+    bits::put(block, MAP, &map);
+}
+
 // PAL_SET's file, if bit 7 asks for one.
 fn pal_set_file(block: &mut [u8], flags: u8)
     requires { Valid block.old }
     ensures { block.new ≡ changed_block (λ s g. with_map (pal_set_map flags s.files g.map) g) block.old }
 {
-    let mut map = [0u8; MAP_BYTES];
-    bits::put(&mut map, 0, &block[MAP..SYSTEM]);
-    commands::pal_set_map(&mut map, &block[FILES..LIVE], flags);
-    bits::put(block, MAP, &map);
+    change_map(
+        block,
+        |map: &mut [u8], files: &[u8]|
+            requires { (length map.old ≡ map_bytes) × (length files.now ≡ files_bytes) }
+            ensures { map.new ≡ pal_set_map flags files.now map.old }
+        { commands::pal_set_map(map, files, flags) },
+    );
 }
 
 // ATTR_SET's file.
@@ -80,10 +95,13 @@ fn attr_set_file(block: &mut [u8], flags: u8)
     requires { Valid block.old }
     ensures { block.new ≡ changed_block (λ s g. with_map (attr_set_map flags s.files g.map) g) block.old }
 {
-    let mut map = [0u8; MAP_BYTES];
-    bits::put(&mut map, 0, &block[MAP..SYSTEM]);
-    commands::attr_set_map(&mut map, &block[FILES..LIVE], flags);
-    bits::put(block, MAP, &map);
+    change_map(
+        block,
+        |map: &mut [u8], files: &[u8]|
+            requires { (length map.old ≡ map_bytes) × (length files.now ≡ files_bytes) }
+            ensures { map.new ≡ attr_set_map flags files.now map.old }
+        { commands::attr_set_map(map, files, flags) },
+    );
 }
 
 // Bit 6 cancels the mask, and the frozen capture stays.
