@@ -5,7 +5,7 @@ use Prim.Native.Nat.{ℕ, zero, suc, ◌+◌, ◌-◌, ◌*◌, ◌≤◌, ◌<�
 use native.Mathlib.Omega.{arith}
 use lib.ListN.{length, take, drop, length-take, take-append-drop, drop_of_length-le}
 use Rattle.layout.specs.Block.{load}
-use Rattle.block_port.specs.Bytes.{packets_told}
+use Rattle.block_port.specs.Bytes.{packets_told, handed}
 use Rattle.block_writes.specs.Play.{played}
 use Rattle.layout.specs.Block.{save}
 use Rattle.bits.specs.Answer.{given}
@@ -58,19 +58,23 @@ told-some (suc n) e = refl
 
 -- ---- the decoded writes
 
-module _ (r : Reading) (b bytes command : List ℕ) (at : ℕ) where
+module _ (r : Reading) (d : Desk) (at : ℕ) where
   abbrev ws : List ℕ
-  ws = take (r.upto - r.from) (drop r.from bytes)
+  ws = take (r.upto - r.from) (drop r.from d.bytes)
 
-  pub played-within : (n : ℕ) → r.from ≤ r.upto → r.upto ≤ capture_bytes → n ≡ (played (load b) ws).at → r.from + n ≤ capture_bytes
-  played-within n h k e = let l : length ws ≤ r.upto - r.from = simp length-take (omega arith) in omega (arith, at_most (load b) ws)
+  pub played-within : (n : ℕ) → r.from ≤ r.upto → r.upto ≤ capture_bytes → n ≡ (played (load d.block) ws).at → r.from + n ≤ capture_bytes
+  played-within n h k e = let l : length ws ≤ r.upto - r.from = simp length-take (omega arith) in omega (arith, at_most (load d.block) ws)
 
-  pub played-answer : (n packets : ℕ) (t : Told) → n ≡ (played (load b) ws).at → packets ≡ packets_told (played (load b) ws).told → t ≡ told_of packets
-      → ◌≡◌ {A = Step} (record { reading = record { held = r.held; number = r.number; from = r.from + n; upto = r.upto }; at = at; told = t })
-      (answer_of (ran_on r (desk b [] bytes command) at))
+  pub played-answer : (n packets : ℕ) (t : Told) → n ≡ (played (load d.block) ws).at → packets ≡ packets_told (played (load d.block) ws).told → t ≡ told_of packets
+      → ◌≡◌ {A = Step} (record { reading = record { held = r.held; number = r.number; from = r.from + n; upto = r.upto }; at = at; told = t }) (answer_of (ran_on r d at))
   unfolding ran_on played_to pending
   played-answer n packets t e f g =
       ap₂ (λ (m : ℕ) (u : Told). record { reading = record { held = r.held; number = r.number; from = r.from + m; upto = r.upto }; at = at; told = u }) e (g ∙ ap told_of f)
+
+  pub played-desk : (block command : List ℕ) → block ≡ save (played (load d.block) ws).unit → command ≡ handed (played (load d.block) ws).told d.command
+      → desk block d.line d.bytes command ≡ (ran_on r d at).desk
+  unfolding ran_on played_to pending
+  played-desk block command e f = ap₂ (λ (b c : List ℕ). desk b d.line d.bytes c) e f
 
 -- ---- a line that has ended
 
@@ -78,48 +82,51 @@ module _ (r : Reading) (d : Desk) (at : ℕ) where
   abbrev pub behind : ℕ → Told → Step
   behind n t = record { reading = next_line r n; at = at; told = t }
 
-  -- what the code leaves, by the line's meaning
-  pub record Ends (m : Meaning) (answer : Step) (block bytes : List ℕ) : Type 0 where
-    pub answers : answer ≡ answer_of (ended_as m r d at)
-    pub blocks : block ≡ (ended_as m r d at).desk.block
-    pub holds : bytes ≡ (ended_as m r d at).desk.bytes
+  -- the buffers with the line's bytes
+  abbrev pub decoded : List ℕ → Desk
+  decoded bytes = desk d.block d.line bytes d.command
 
-  pub ends-refused : (m : Meaning) (n : ℕ) (bytes : List ℕ) → refusal n ≡ meaning_told m → bytes ≡ filled m d.bytes → Ends m (behind 0 Refused) d.block bytes
+  -- what the code leaves, by the line's meaning
+  pub record Ends (m : Meaning) (answer : Step) (e : Desk) : Type 0 where
+    pub answers : answer ≡ answer_of (ended_as m r d at)
+    pub desks : e ≡ (ended_as m r d at).desk
+
+  pub ends-refused : (m : Meaning) (n : ℕ) (bytes : List ℕ) → refusal n ≡ meaning_told m → bytes ≡ filled m d.bytes → Ends m (behind 0 Refused) (decoded bytes)
   unfolding meaning_told filled ended_as
   ends-refused (writes ws) n bytes e f = let z : ◌≡◌ {A = ℕ} 0 1 = cc in absurd (omega arith)
   ends-refused (screen x) n bytes e f = let z : ◌≡◌ {A = ℕ} 0 1 = cc in absurd (omega arith)
-  ends-refused refused n bytes e f = record { answers = refl; blocks = refl; holds = f }
+  ends-refused refused n bytes e f = record { answers = refl; desks = ap decoded f }
 
-  pub ends-writes : (m : Meaning) (n : ℕ) (bytes : List ℕ) → given (writes_of n) ≡ meaning_told m → bytes ≡ filled m d.bytes → Ends m (behind n Nothing) d.block bytes
+  pub ends-writes : (m : Meaning) (n : ℕ) (bytes : List ℕ) → given (writes_of n) ≡ meaning_told m → bytes ≡ filled m d.bytes → Ends m (behind n Nothing) (decoded bytes)
   unfolding meaning_told filled ended_as
-  ends-writes (writes ws) n bytes e f = let k : n ≡ length ws = cc in record { answers = ap (λ (i : ℕ). behind i Nothing) k; blocks = refl; holds = f }
+  ends-writes (writes ws) n bytes e f = let k : n ≡ length ws = cc in record { answers = ap (λ (i : ℕ). behind i Nothing) k; desks = ap decoded f }
   ends-writes (screen x) n bytes e f = let z : ◌≡◌ {A = ℕ} 0 1 = cc in absurd (omega arith)
   ends-writes refused n bytes e f = let z : ◌≡◌ {A = ℕ} 0 1 = cc in absurd (omega arith)
 
   pub ends-screen : (m : Meaning) (bytes block : List ℕ) → Fits m → length d.bytes ≡ capture_bytes → given one_screen ≡ meaning_told m → bytes ≡ filled m d.bytes
-      → block ≡ save (screened (load d.block) bytes) → Ends m (behind 0 Nothing) block bytes
+      → block ≡ save (screened (load d.block) bytes) → Ends m (behind 0 Nothing) (desk block d.line bytes d.command)
   unfolding meaning_told filled ended_as Fits
   ends-screen (writes ws) bytes block g l e f h = let z : ◌≡◌ {A = ℕ} 0 1 = cc in absurd (omega arith)
   ends-screen (screen x) bytes block g l e f h =
       let k : bytes ≡ x = f ∙ over_all (length x) x d.bytes (l ∙ sym g) in
-      record { answers = refl; blocks = h ∙ ap (λ (y : List ℕ). save (screened (load d.block) y)) k; holds = f }
+      record { answers = refl; desks = ap₂ (λ (b y : List ℕ). desk b d.line y d.command) (h ∙ ap (λ (y : List ℕ). save (screened (load d.block) y)) k) f }
   ends-screen refused bytes block g l e f h = let z : ◌≡◌ {A = ℕ} 0 1 = cc in absurd (omega arith)
 
 -- which line it is that ended
-module _ (r : Reading) (d : Desk) (at : ℕ) (answer : Step) (block bytes : List ℕ) where
+module _ (r : Reading) (d : Desk) (at : ℕ) (answer : Step) (e : Desk) where
   abbrev pub Told·Ended : Type 0
-  Told·Ended = (answer ≡ answer_of (ended r d at)) × ((block ≡ (ended r d at).desk.block) × (bytes ≡ (ended r d at).desk.bytes))
+  Told·Ended = (answer ≡ answer_of (ended r d at)) × (e ≡ (ended r d at).desk)
 
-  ended-as : (m : Meaning) → meaning_marked (held_as r.held d.line) ≡ m → Ends r d at m answer block bytes → Told·Ended
+  ended-as : (m : Meaning) → meaning_marked (held_as r.held d.line) ≡ m → Ends r d at m answer e → Told·Ended
   unfolding ended
-  ended-as m e k = rw e (k.answers, (k.blocks, k.holds))
+  ended-as m h k = rw h (k.answers, k.desks)
 
-  pub ended-long : r.held ≡ H.Long → answer ≡ behind r d at 0 Refused → block ≡ d.block → bytes ≡ d.bytes → Told·Ended
+  pub ended-long : r.held ≡ H.Long → answer ≡ behind r d at 0 Refused → e ≡ d → Told·Ended
   unfolding ended_as
-  ended-long e k b y = ended-as refused (rw e (held-long d.line)) (record { answers = k; blocks = b; holds = y })
+  ended-long h k y = ended-as refused (rw h (held-long d.line)) (record { answers = k; desks = y })
 
-  pub ended-parsed : (n : ℕ) → r.held ≡ H.Bytes n → (a : Step) → answer ≡ a → Ends r d at (meaning_of (take n d.line)) a block bytes → Told·Ended
-  ended-parsed n e a k z = ended-as (meaning_of (take n d.line)) (rw e (held-means n d.line)) (record { answers = k ∙ z.answers; blocks = z.blocks; holds = z.holds })
+  pub ended-parsed : (n : ℕ) → r.held ≡ H.Bytes n → (a : Step) → answer ≡ a → Ends r d at (meaning_of (take n d.line)) a e → Told·Ended
+  ended-parsed n h a k z = ended-as (meaning_of (take n d.line)) (rw h (held-means n d.line)) (record { answers = k ∙ z.answers; desks = z.desks })
 
 -- the buffer is long enough for any line
 pub parse-told : (text bytes : List ℕ) → length bytes ≡ capture_bytes → (line_answer text bytes ≡ meaning_told (meaning_of text)) × (line_bytes text bytes ≡ filled (meaning_of text) bytes)
@@ -138,17 +145,18 @@ module _ (r : Reading) (d : Desk) (at : ℕ) (n : ℕ) (short : r.held ≡ H.Byt
   left_is : bytes ≡ filled M d.bytes
   left_is = left_in ∙ (parse-told (take n d.line) d.bytes long).1
 
-  pub parsed-refused : (k : Refusal) → m ≡ Err k → answer ≡ behind r d at 0 Refused → Told·Ended r d at answer d.block bytes
+  pub parsed-refused : (k : Refusal) → m ≡ Err k → answer ≡ behind r d at 0 Refused → Told·Ended r d at answer (decoded r d at bytes)
   unfolding line_told
-  parsed-refused k e a = ended-parsed r d at answer d.block bytes n short (behind r d at 0 Refused) a (ends-refused r d at M (code_of k) bytes (ap line_told (sym e) ∙ told_is) left_is)
+  parsed-refused k e a = ended-parsed r d at answer (decoded r d at bytes) n short (behind r d at 0 Refused) a (ends-refused r d at M (code_of k) bytes (ap line_told (sym e) ∙ told_is) left_is)
 
-  pub parsed-writes : (k : ℕ) → m ≡ Ok (L.Writes k) → answer ≡ behind r d at k Nothing → Told·Ended r d at answer d.block bytes
+  pub parsed-writes : (k : ℕ) → m ≡ Ok (L.Writes k) → answer ≡ behind r d at k Nothing → Told·Ended r d at answer (decoded r d at bytes)
   unfolding line_told
-  parsed-writes k e a = ended-parsed r d at answer d.block bytes n short (behind r d at k Nothing) a (ends-writes r d at M k bytes (ap line_told (sym e) ∙ told_is) left_is)
+  parsed-writes k e a = ended-parsed r d at answer (decoded r d at bytes) n short (behind r d at k Nothing) a (ends-writes r d at M k bytes (ap line_told (sym e) ∙ told_is) left_is)
 
-  pub parsed-screen : (block : List ℕ) → m ≡ Ok L.Screen → block ≡ save (screened (load d.block) bytes) → answer ≡ behind r d at 0 Nothing → Told·Ended r d at answer block bytes
+  pub parsed-screen : (block : List ℕ) → m ≡ Ok L.Screen → block ≡ save (screened (load d.block) bytes) → answer ≡ behind r d at 0 Nothing
+      → Told·Ended r d at answer (desk block d.line bytes d.command)
   unfolding line_told
-  parsed-screen block e h a = ended-parsed r d at answer block bytes n short (behind r d at 0 Nothing) a (ends-screen r d at M bytes block (fits_line (take n d.line)) long (ap line_told (sym e) ∙ told_is) left_is h)
+  parsed-screen block e h a = ended-parsed r d at answer (desk block d.line bytes d.command) n short (behind r d at 0 Nothing) a (ends-screen r d at M bytes block (fits_line (take n d.line)) long (ap line_told (sym e) ∙ told_is) left_is h)
 
 -- a screen that a line has is as long as the buffer
 pub bytes_long : (text bytes b : List ℕ) → length b ≡ capture_bytes → bytes ≡ line_bytes text b → length bytes ≡ capture_bytes

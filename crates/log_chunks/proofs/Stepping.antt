@@ -31,76 +31,58 @@ use Rattle.log_chunks.specs.declared.Filled.{Filled}
 use Rattle.log_chunks.specs.declared.Told.{Told}
 use Rattle.log_chunks.specs.declared.Told.TheVariants.{Nothing, Command, Refused}
 
--- ---- a line's end asks nothing of the command's buffer
-
-record Alike (s t : Stepped) (l c : List ℕ) : Type 0 where
-  pub answers : answer_of s ≡ answer_of t
-  pub blocks : s.desk.block ≡ t.desk.block
-  pub lines : l ≡ t.desk.line
-  pub holds : s.desk.bytes ≡ t.desk.bytes
-  pub commands : c ≡ t.desk.command
-
-alike : (m : Meaning) (r : Reading) (b l y c : List ℕ) (at : ℕ) → Alike (ended_as m r (desk b l y []) at) (ended_as m r (desk b l y c) at) l c
-unfolding ended_as
-alike (writes ws) r b l y c at = record { answers = refl; blocks = refl; lines = refl; holds = refl; commands = refl }
-alike (screen x) r b l y c at = record { answers = refl; blocks = refl; lines = refl; holds = refl; commands = refl }
-alike refused r b l y c at = record { answers = refl; blocks = refl; lines = refl; holds = refl; commands = refl }
-
 pub taken-fits : (h : Held) (chunk : List ℕ) (at : ℕ) → held_size (taken h chunk at).held ≤ line_digits
 unfolding taken
 taken-fits h chunk at = took-fits h (up_to_lf (drop at chunk))
 
 -- ---- what the code has at hand
 
-module _ (r : Reading) (b l y c chunk : List ℕ) (at : ℕ) (a : Step) (b' l' y' c' : List ℕ) where
+module _ (r : Reading) (d : Desk) (chunk : List ℕ) (at : ℕ) (a : Step) (e : Desk) where
   abbrev S : Stepped
-  S = stepped r (desk b l y c) chunk at
+  S = stepped r d chunk at
 
   abbrev Is : Stepped → Type 0
-  Is s = (a ≡ answer_of s) × ((b' ≡ s.desk.block) × ((l' ≡ s.desk.line) × ((y' ≡ s.desk.bytes) × (c' ≡ s.desk.command))))
+  Is s = (a ≡ answer_of s) × (e ≡ s.desk)
 
-  pub step-played : r.from < r.upto → a ≡ answer_of (ran_on r (desk b [] y c) at) → b' ≡ (ran_on r (desk b [] y c) at).desk.block → l' ≡ l → y' ≡ y → c' ≡ (ran_on r (desk b [] y c) at).desk.command → Is S
-  unfolding stepped ran_on played_to pending
-  step-played h e f g i j = let t : ltb r.from r.upto ≡ true = lt-ltb r.from r.upto h in rw t (e, (f, (g, (i, j))))
+  pub step-played : r.from < r.upto → a ≡ answer_of (ran_on r d at) → e ≡ (ran_on r d at).desk → Is S
+  unfolding stepped
+  step-played h p q = let t : ltb r.from r.upto ≡ true = lt-ltb r.from r.upto h in rw t (p, q)
 
-  module _ (none_left : r.upto ≤ r.from) (t : Taken) (split : t ≡ taken r.held chunk at) (joined : l' ≡ took_line r.held (up_to_lf (drop at chunk)) l) where
-    took-at : (s : Bool) → ltb t.at (length chunk) ≡ s → Is (took (holding r t.held) (desk b l' y c) chunk t.at s) → Is S
+  module _ (none_left : r.upto ≤ r.from) (t : Taken) (split : t ≡ taken r.held chunk at) (l : List ℕ) (joined : l ≡ took_line r.held (up_to_lf (drop at chunk)) d.line) where
+    took-at : (s : Bool) → ltb t.at (length chunk) ≡ s → Is (took (holding r t.held) (with_line d l) chunk t.at s) → Is S
     unfolding stepped took_on
-    took-at s e k =
+    took-at s k i =
         let z : ltb r.from r.upto ≡ false = le-ltb r.from r.upto none_left in
-        rw (z, ← split, ← joined, e) k
+        rw (z, ← split, ← joined, k) i
 
-    pub step-ended : t.at < length chunk → a ≡ answer_of (ended (holding r t.held) (desk b l' y []) (t.at + 1)) → b' ≡ (ended (holding r t.held) (desk b l' y []) (t.at + 1)).desk.block
-        → y' ≡ (ended (holding r t.held) (desk b l' y []) (t.at + 1)).desk.bytes → c' ≡ c → Is S
-    unfolding took ended
-    step-ended h e f g i =
-        let k = alike (meaning_marked (held_as t.held l')) (holding r t.held) b l' y c (t.at + 1) in
-        took-at true (lt-ltb t.at (length chunk) h) (e ∙ k.answers, (f ∙ k.blocks, (k.lines, (g ∙ k.holds, i ∙ k.commands))))
-
-    pub step-held : length chunk ≤ t.at → a ≡ record { reading = holding r t.held; at = t.at; told = Nothing } → b' ≡ b → y' ≡ y → c' ≡ c → Is S
+    pub step-ended : t.at < length chunk → a ≡ answer_of (ended (holding r t.held) (with_line d l) (t.at + 1)) → e ≡ (ended (holding r t.held) (with_line d l) (t.at + 1)).desk → Is S
     unfolding took
-    step-held h e f g i = took-at false (le-ltb t.at (length chunk) h) (e, (f, (refl, (g, i))))
+    step-ended h p q = took-at true (lt-ltb t.at (length chunk) h) (p, q)
+
+    pub step-held : length chunk ≤ t.at → a ≡ record { reading = holding r t.held; at = t.at; told = Nothing } → e ≡ with_line d l → Is S
+    unfolding took
+    step-held h p q = took-at false (le-ltb t.at (length chunk) h) (p, q)
 
 -- ---- a step and its text
 
-module _ (f : Filled) (d : Desk) (chunk out : List ℕ) (a : Step) (b' l' y' c' out' : List ℕ) (n : ℕ) (t : Bool) where
+module _ (f : Filled) (d : Desk) (chunk out : List ℕ) (a : Step) (e : Desk) (out' : List ℕ) (n : ℕ) (t : Bool) where
   abbrev T : Stepped
   T = stepped f.reading d chunk f.at
 
-  abbrev words : Step → List ℕ → List ℕ
-  words s c = shown (told_by s.told s.reading c)
+  abbrev words : Step → Desk → List ℕ
+  words s d = shown (told_by s.told s.reading d.command)
 
-  pub said : a ≡ answer_of T → b' ≡ T.desk.block → l' ≡ T.desk.line → y' ≡ T.desk.bytes → c' ≡ T.desk.command
-      → n ≡ length (words a c') → f.size + n ≤ length out → out' ≡ over f.size (length (words a c')) (words a c') out → t ≡ is_refused a.told
-      → Said f d chunk out (record { reading = a.reading; at = a.at; size = f.size + n; refused = t }) (desk b' l' y' c') out'
+  pub said : a ≡ answer_of T → e ≡ T.desk → n ≡ length (words a e) → f.size + n ≤ length out
+      → out' ≡ over f.size (length (words a e)) (words a e) out → t ≡ is_refused a.told
+      → Said f d chunk out (record { reading = a.reading; at = a.at; size = f.size + n; refused = t }) e out'
   unfolding filled_by events_on
-  said e p q r s k i w z =
-      let x : words a c' ≡ shown (events_on T) = ap₂ words e s in
+  said p q k i w z =
+      let x : words a e ≡ shown (events_on T) = ap₂ words p q in
       record {
         goes =
             ap₂ (λ (m : ℕ) (u : Bool). record { reading = a.reading; at = a.at; size = f.size + m; refused = u }) (k ∙ ap length x) z
-            ∙ ap (λ (s : Step). record { reading = s.reading; at = s.at; size = f.size + length (shown (events_on T)); refused = is_refused s.told }) e;
-        lends = λ j. desk (p j) (q j) (r j) (s j);
+            ∙ ap (λ (s : Step). record { reading = s.reading; at = s.at; size = f.size + length (shown (events_on T)); refused = is_refused s.told }) p;
+        lends = q;
         fits = i;
         tells = w ∙ ap (λ (v : List ℕ). over f.size (length v) v out) x;
       }

@@ -27,11 +27,7 @@ use Rattle.log_chunks.specs.declared.Told.{Told}
 use Rattle.log_chunks.specs.declared.Told.TheVariants.{Nothing, Command, Refused}
 
 -- the lent buffers: the unit, the line that is held, the decoded writes or screen, the last command
-pub record Desk : Type 0 where
-  pub block : List ℕ
-  pub line : List ℕ
-  pub bytes : List ℕ
-  pub command : List ℕ
+pub use Rattle.log_chunks.specs.declared.Desk.{Desk}
 
 abbrev pub desk : List ℕ → List ℕ → List ℕ → List ℕ → Desk
 desk b l y c = record { block = b; line = l; bytes = y; command = c }

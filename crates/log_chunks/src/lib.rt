@@ -9,7 +9,7 @@ ghost use Rattle.layout.specs.Valid.{Valid};
 ghost use Rattle.log_text.specs.Text.{hex_line, row_line};
 ghost use Rattle.log_line.specs.Line.{line_digits};
 ghost use Rattle.log_line.specs.Split.{held_size};
-ghost use Rattle.log_chunks.specs.Steps.{fill, desk, told_of, ran_on, answer_of, ended, stepped, Fit, goes_on, step_room, ToldFits, Said, Full, is_refused, told_by, next_line, most64};
+ghost use Rattle.log_chunks.specs.Steps.{fill, told_of, ran_on, answer_of, ended, stepped, Fit, goes_on, step_room, ToldFits, Said, Full, is_refused, told_by, next_line, most64};
 ghost use Rattle.layout.specs.Block.{load};
 ghost use Rattle.picture.specs.Picture.{row_of};
 ghost use Rattle.picture.specs.Tables.{TablesOf};
@@ -20,10 +20,21 @@ ghost use Rattle.bits.specs.Over.{over};
 use block_screen::show;
 use block_writes::play;
 use log_line::lines::{Held, split};
-use log_line::{Line, parse};
+use log_line::{LINE_DIGITS, Line, parse};
 use log_reading::Reading;
 use log_text::{command_line, refusal_line};
+use parts::{BLOCK, CAPTURE_BYTES, STORE_BYTES};
 use picture_runs::drawing::PictureTables;
+
+// What a reading works on: the unit, the line that is held, the decoded writes or the screen, and the last command. A program makes one, and
+// lends it from call to call.
+#[derive(Drop)]
+pub struct Desk {
+    pub block: [u8; BLOCK],
+    pub line: [u8; LINE_DIGITS],
+    pub bytes: [u8; CAPTURE_BYTES],
+    pub command: [u8; STORE_BYTES],
+}
 
 // The room that the longest text of a step needs: a command of 112 bytes has 225.
 const STEP_ROOM: usize = 256;
@@ -63,14 +74,18 @@ fn told_of(packets: u8) -> Told
 }
 
 // The decoded writes, up to the next command.
-fn play_on(reading: Reading, block: &mut [u8], bytes: &[u8], command: &mut [u8], at: usize) -> Step
-    requires valid { Valid block.old × ((length bytes.now ≡ capture_bytes) × (store_bytes ≤ length command.old)) }
+fn play_on(reading: Reading, desk: &mut Desk, at: usize) -> Step
+    requires valid { Valid desk.old.block }
     requires from_le_upto { (reading.from ≤ reading.upto) × (reading.upto ≤ capture_bytes) }
-    ensures value { result ≡ answer_of (ran_on reading (desk block.old [] bytes.now command.old) at) }
-    ensures block_after { block.new ≡ (ran_on reading (desk block.old [] bytes.now command.old) at).desk.block }
-    ensures command_after { command.new ≡ (ran_on reading (desk block.old [] bytes.now command.old) at).desk.command }
+    ensures value { result ≡ answer_of (ran_on reading desk.old at) }
+    ensures desk_after { desk.new ≡ (ran_on reading desk.old at).desk }
 {
-    let p = play(block, &bytes[reading.from..reading.upto], command);
+    let bytes: &[u8] = &desk.bytes;
+    let p = play(
+        &mut desk.block,
+        &bytes[reading.from..reading.upto],
+        &mut desk.command,
+    );
     Step {
         reading: Reading {
             from: reading.from + p.at,
@@ -134,48 +149,37 @@ fn behind(reading: Reading, at: usize, n: usize, told: Told) -> Step
 }
 
 // The line that is held has ended.
-fn end_line(reading: Reading, block: &mut [u8], line: &[u8], bytes: &mut [u8], at: usize) -> Step
-    requires valid { Valid block.old × ((length line.now ≡ line_digits) × (length bytes.old ≡ capture_bytes)) }
+fn end_line(reading: Reading, desk: &mut Desk, at: usize) -> Step
+    requires valid { Valid desk.old.block }
     requires size_le_line_digits { (held_size reading.held ≤ line_digits) × (reading.number < most64) }
-    ensures value { result ≡ answer_of (ended reading (desk block.old line.now bytes.old []) at) }
-    ensures block_after { block.new ≡ (ended reading (desk block.old line.now bytes.old []) at).desk.block }
-    ensures bytes_after { bytes.new ≡ (ended reading (desk block.old line.now bytes.old []) at).desk.bytes }
+    ensures value { result ≡ answer_of (ended reading desk.old at) }
+    ensures desk_after { desk.new ≡ (ended reading desk.old at).desk }
 {
     let Held::Bytes(size) = reading.held else {
         return behind(reading, at, 0, Told::Refused);
     };
-    match parse(&line[..size], bytes) {
+    let line: &[u8] = &desk.line;
+    match parse(&line[..size], &mut desk.bytes) {
         Err(_) => behind(reading, at, 0, Told::Refused),
         Ok(Line::Writes(n)) => behind(reading, at, n, Told::Nothing),
         Ok(Line::Screen) => {
-            show(block, bytes);
+            show(&mut desk.block, &desk.bytes);
             behind(reading, at, 0, Told::Nothing)
         }
     }
 }
 
 // One step: the decoded writes up to the next command, or the chunk up to the next line's end.
-fn take_step(
-    reading: Reading,
-    block: &mut [u8],
-    line: &mut [u8],
-    bytes: &mut [u8],
-    command: &mut [u8],
-    chunk: &[u8],
-    at: usize,
-) -> Step
-    requires fit { Fit reading (desk block.old line.old bytes.old command.old) }
+fn take_step(reading: Reading, desk: &mut Desk, chunk: &[u8], at: usize) -> Step
+    requires fit { Fit reading desk.old }
     requires number_lt_most64 { (reading.number < most64) × ((at ≤ length chunk.now) × (length chunk.now < most64)) }
-    ensures value { result ≡ answer_of (stepped reading (desk block.old line.old bytes.old command.old) chunk.now at) }
-    ensures block_after { block.new ≡ (stepped reading (desk block.old line.old bytes.old command.old) chunk.now at).desk.block }
-    ensures line_after { line.new ≡ (stepped reading (desk block.old line.old bytes.old command.old) chunk.now at).desk.line }
-    ensures bytes_after { bytes.new ≡ (stepped reading (desk block.old line.old bytes.old command.old) chunk.now at).desk.bytes }
-    ensures command_after { command.new ≡ (stepped reading (desk block.old line.old bytes.old command.old) chunk.now at).desk.command }
+    ensures value { result ≡ answer_of (stepped reading desk.old chunk.now at) }
+    ensures desk_after { desk.new ≡ (stepped reading desk.old chunk.now at).desk }
 {
     if reading.from < reading.upto {
-        return play_on(reading, block, bytes, command, at);
+        return play_on(reading, desk, at);
     }
-    let t = split(reading.held, line, chunk, at);
+    let t = split(reading.held, &mut desk.line, chunk, at);
     let now = Reading {
         held: t.held,
         from: 0,
@@ -183,7 +187,7 @@ fn take_step(
         ..reading
     };
     if t.at < chunk.len() {
-        return end_line(now, block, line, bytes, t.at + 1);
+        return end_line(now, desk, t.at + 1);
     }
     Step {
         reading: now,
@@ -193,30 +197,14 @@ fn take_step(
 }
 
 // One step, and its text behind the text that there is.
-fn say(
-    so_far: Filled,
-    block: &mut [u8],
-    line: &mut [u8],
-    bytes: &mut [u8],
-    command: &mut [u8],
-    chunk: &[u8],
-    out: &mut [u8],
-) -> Filled
-    requires fit { Fit so_far.reading (desk block.old line.old bytes.old command.old) }
+fn say(so_far: Filled, desk: &mut Desk, chunk: &[u8], out: &mut [u8]) -> Filled
+    requires fit { Fit so_far.reading desk.old }
     requires so_far_bound { (so_far.reading.number < most64) × ((so_far.at ≤ length chunk.now) × (length chunk.now < most64)) }
     requires step_room_in_bounds { (so_far.size + step_room ≤ length out.old) × (length out.old < most64) }
-    ensures { Said so_far (desk block.old line.old bytes.old command.old) chunk.now out.old result (desk block.new line.new bytes.new command.new) out.new }
+    ensures { Said so_far desk.old chunk.now out.old result desk.new out.new }
 {
-    let s = take_step(
-        so_far.reading,
-        block,
-        line,
-        bytes,
-        command,
-        chunk,
-        so_far.at,
-    );
-    let n = tell(s, command, out, so_far.size);
+    let s = take_step(so_far.reading, desk, chunk, so_far.at);
+    let n = tell(s, &desk.command, out, so_far.size);
     Filled {
         reading: s.reading,
         at: s.at,
@@ -235,18 +223,15 @@ fn is_refused(step: Step) -> bool
 // while anything is left of the chunk or of its last line's writes.
 pub fn fill(
     start: Reading,
-    block: &mut [u8],
-    line: &mut [u8],
-    bytes: &mut [u8],
-    command: &mut [u8],
+    desk: &mut Desk,
     chunk: &[u8],
     from: usize,
     out: &mut [u8],
 ) -> Filled
-    requires fit { Fit start (desk block.old line.old bytes.old command.old) }
+    requires fit { Fit start desk.old }
     requires chunk_bound { (start.number + length chunk.now < most64 + from) × ((from ≤ length chunk.now) × (length chunk.now < most64)) }
     requires out_len_bound { length out.old < most64 }
-    ensures { Full start (desk block.old line.old bytes.old command.old) chunk.now from out.old result (desk block.new line.new bytes.new command.new) out.new }
+    ensures { Full start desk.old chunk.now from out.old result desk.new out.new }
 {
     let mut f = Filled {
         reading: start,
@@ -255,7 +240,7 @@ pub fn fill(
         refused: false,
     };
     while goes_on(f, chunk.len(), out.len()) {
-        f = say(f, block, line, bytes, command, chunk, out);
+        f = say(f, desk, chunk, out);
     }
     f
 }
