@@ -39,7 +39,8 @@ use Rattle.log_line.specs.declared.lines.Held.TheVariants as H
 use Rattle.refusal.specs.declared.Refusal.{Refusal}
 use Rattle.refusal.specs.Codes.{code_of}
 use Rattle.std.specs.Prelude.{Result, Ok, Err}
-use Rattle.log_chunks.specs.Steps.{Desk, desk, pending, told_of, ran_on, played_to, answer_of, next_line, ended_as, ended, told_by, ToldFits, goes_on, step_room, left, last_lf}
+use Rattle.log_chunks.specs.declared.Desk.{Desk}
+use Rattle.log_chunks.specs.Steps.{desk, pending, told_of, ran_on, played_to, answer_of, next_line, ended_as, ended, told_by, ToldFits, goes_on, step_room, left, last_lf}
 use Rattle.log_reading.specs.declared.Reading.{Reading}
 use Rattle.log_chunks.specs.declared.Step.{Step}
 use Rattle.log_chunks.specs.declared.Told.{Told}

@@ -21,14 +21,13 @@ use Rattle.log_chunks.specs.Texts.{shown}
 use Rattle.log_reading.specs.declared.Reading.{Reading}
 pub use Rattle.log_reading.specs.Point.{begun}
 unfoldable pub use Rattle.log_reading.specs.Point.{left, last_lf}
+use Rattle.log_chunks.specs.declared.Desk.{Desk}
 use Rattle.log_chunks.specs.declared.Filled.{Filled}
 use Rattle.log_chunks.specs.declared.Step.{Step}
 use Rattle.log_chunks.specs.declared.Told.{Told}
 use Rattle.log_chunks.specs.declared.Told.TheVariants.{Nothing, Command, Refused}
 
--- the lent buffers: the unit, the line that is held, the decoded writes or screen, the last command
-pub use Rattle.log_chunks.specs.declared.Desk.{Desk}
-
+-- the lent buffers, of their own lengths where the code lends them
 abbrev pub desk : List ℕ → List ℕ → List ℕ → List ℕ → Desk
 desk b l y c = record { block = b; line = l; bytes = y; command = c }
 

@@ -13,7 +13,8 @@ use Rattle.layout.proofs.Goods.{saved-valid}
 use Rattle.log_writer.specs.Tally.{tallied}
 use Rattle.log_chunks.specs.Events.{Event, events_of, unit_after}
 use Rattle.log_chunks.specs.Texts.{refused_or, picture_lines, plate_text}
-use Rattle.log_chunks.specs.Steps.{Desk, desk, begun, to_end, Fit}
+use Rattle.log_chunks.specs.declared.Desk.{Desk}
+use Rattle.log_chunks.specs.Steps.{desk, begun, to_end, Fit}
 use Rattle.log_reading.specs.declared.Reading.{Reading}
 use Rattle.log_chunks.proofs.Whole.{begins, begins-end}
 use Rattle.log_reader.specs.Fed.{LentSizes}
@@ -177,9 +178,6 @@ boot-fit d b s e = record {
   upto_fits = omega arith;
   number_fits = omega arith;
 }
-
-pub sized-kept : (d : Desk) (b l y c : List ℕ) → LentSizes d → length b ≡ length d.block → length l ≡ length d.line → length y ≡ length d.bytes → length c ≡ length d.command → LentSizes (desk b l y c)
-sized-kept d b l y c s h i j k = record { block_long = h ∙ s.block_long; line_long = i ∙ s.line_long; bytes_long = j ∙ s.bytes_long; command_long = k ∙ s.command_long }
 
 -- ---- the reads so far
 

@@ -5,10 +5,11 @@
 
 ghost use Rattle.std.specs.Prelude.{false, List, [], ◌≡◌, ℕ, ◌+◌, ◌≤◌, length, take};
 ghost use Rattle.layout.specs.Valid.{Valid};
-ghost use Rattle.log_chunks.specs.Steps.{Fit, desk};
-ghost use Rattle.log_reader.specs.Fed.{LentSizes, Kept, chunk_bytes, out_bytes, most_lines, most_bytes};
+ghost use Rattle.log_chunks.specs.Steps.{Fit};
+ghost use Rattle.log_reader.specs.Fed.{Kept, chunk_bytes, out_bytes, most_lines, most_bytes};
 ghost use Rattle.log_reader.specs.Read.{point, is_well, reads_on, Stands, Turned, Reached};
 
+use log_chunks::Desk;
 use log_reading::Reading;
 use log_writer::{State, Streams, fail, told};
 use std::io::Read as _;
@@ -42,49 +43,41 @@ pub struct Print {
     pub whole: bool,
 }
 
-// All of a log, from a fresh unit on. A proved loop has to end, and nothing says that an input does: the turns are more than a machine
-// makes in thirty years.
+// More than a machine makes in thirty years.
+const TURNS: u64 = 1125899906842624;
+
+// All of a log, from a fresh unit on. A proved loop has to end, and nothing says that an input does: so its turns are counted.
 pub fn read_log(
     streams: Streams,
     tally: &mut u64,
-    block: &mut [u8],
-    line: &mut [u8],
-    bytes: &mut [u8],
-    command: &mut [u8],
+    desk: &mut Desk,
     out: &mut [u8],
     chunk: &mut [u8],
     quiet: bool,
 ) -> Read
-    requires lent_sizes { LentSizes (desk block.old line.old bytes.old command.old) }
     requires out_len { (length out.old ≡ out_bytes) × (length chunk.old ≡ chunk_bytes) }
-    ensures valid { Valid block.new × (1 ≤ result.reading.number) }
-    ensures by_index { (input : List ℕ) × ((length input ≡ result.got) × Reached result.state result.ended quiet input result.reading block.new tally.old tally.new) }
+    ensures valid { Valid desk.new.block × (1 ≤ result.reading.number) }
+    ensures by_index { (input : List ℕ) × ((length input ≡ result.got) × Reached result.state result.ended quiet input result.reading desk.new.block tally.old tally.new) }
 {
-    block_fresh::post_boot(block);
+    block_fresh::post_boot(&mut desk.block);
     let mut read = Read {
         reading: log_reading::begin(),
         state: State::Well,
         got: 0,
         ended: false,
     };
-    let mut turns: u64 = 1125899906842624;
-    while turns > 0 {
-        turns -= 1;
-        let next = turn(
-            read, streams, tally, block, line, bytes, command, out, chunk, quiet,
-        );
+    for past in 0..TURNS {
+        let next = turn(read, streams, tally, desk, out, chunk, quiet);
         if !goes_on(next) {
             return next;
         }
         read = next;
     }
     let _ = eprintln!(streams.words; "the input does not end");
-    let reading = read.reading;
     Read {
-        reading: reading,
         state: State::Failed,
-        got: read.got,
         ended: false,
+        ..read
     }
 }
 
@@ -93,55 +86,43 @@ fn turn(
     start: Read,
     streams: Streams,
     tally: &mut u64,
-    block: &mut [u8],
-    line: &mut [u8],
-    bytes: &mut [u8],
-    command: &mut [u8],
+    desk: &mut Desk,
     out: &mut [u8],
     chunk: &mut [u8],
     quiet: bool,
 ) -> Read
-    requires fit { Fit start.reading (desk block.old line.old bytes.old command.old) }
+    requires fit { Fit start.reading desk.old }
     requires number_le_most_lines { (start.reading.number ≤ most_lines) × (start.got ≤ most_bytes) }
     requires out_len { (length out.old ≡ out_bytes) × (length chunk.old ≡ chunk_bytes) }
-    ensures { (n : ℕ) × Turned quiet start (point start.reading (desk block.old line.old bytes.old command.old) tally.old) (take n chunk.new) result (point result.reading (desk block.new line.new bytes.new command.new) tally.new) }
+    ensures { (n : ℕ) × Turned quiet start (point start.reading desk.old tally.old) (take n chunk.new) result (point result.reading desk.new tally.new) }
 {
     let mut input = streams.input;
-    let reading = start.reading;
     let n = match input.read(chunk) {
         Ok(n) => n,
         Err(e) => {
             fail(streams, "read", e);
             return Read {
-                reading: reading,
                 state: State::Failed,
-                got: start.got,
                 ended: false,
+                ..start
             };
         }
     };
     if n == 0 {
-        return finish(
-            start, streams, tally, block, line, bytes, command, out, quiet,
-        );
+        return finish(start, streams, tally, desk, out, quiet);
     }
     let f = feed(
-        reading,
+        start.reading,
         streams,
         tally,
-        block,
-        line,
-        bytes,
-        command,
+        desk,
         out,
         &chunk[..n],
         quiet,
     );
-    let next = f.reading;
-    let state = f.state;
     Read {
-        reading: next,
-        state: state,
+        reading: f.reading,
+        state: f.state,
         got: start.got + n as u64,
         ended: false,
     }
@@ -152,38 +133,29 @@ fn finish(
     start: Read,
     streams: Streams,
     tally: &mut u64,
-    block: &mut [u8],
-    line: &mut [u8],
-    bytes: &mut [u8],
-    command: &mut [u8],
+    desk: &mut Desk,
     out: &mut [u8],
     quiet: bool,
 ) -> Read
-    requires fit { Fit start.reading (desk block.old line.old bytes.old command.old) }
+    requires fit { Fit start.reading desk.old }
     requires number_le_most_lines { start.reading.number ≤ most_lines }
     requires out_len { length out.old ≡ out_bytes }
-    ensures { Turned quiet start (point start.reading (desk block.old line.old bytes.old command.old) tally.old) [] result (point result.reading (desk block.new line.new bytes.new command.new) tally.new) }
+    ensures { Turned quiet start (point start.reading desk.old tally.old) [] result (point result.reading desk.new tally.new) }
 {
-    let reading = start.reading;
     let lf = [10u8; 1];
-    let k = log_reading::last_lf(reading);
+    let k = log_reading::last_lf(start.reading);
     let f = feed(
-        reading,
+        start.reading,
         streams,
         tally,
-        block,
-        line,
-        bytes,
-        command,
+        desk,
         out,
         &lf[0..k],
         quiet,
     );
-    let next = f.reading;
-    let state = f.state;
     Read {
-        reading: next,
-        state: state,
+        reading: f.reading,
+        state: f.state,
         got: start.got,
         ended: true,
     }
@@ -194,71 +166,49 @@ fn feed(
     start: Reading,
     streams: Streams,
     tally: &mut u64,
-    block: &mut [u8],
-    line: &mut [u8],
-    bytes: &mut [u8],
-    command: &mut [u8],
+    desk: &mut Desk,
     out: &mut [u8],
     chunk: &[u8],
     quiet: bool,
 ) -> Fed
-    requires fit { Fit start (desk block.old line.old bytes.old command.old) }
+    requires fit { Fit start desk.old }
     requires number_le_most_lines { (start.number ≤ most_lines) × (length chunk.now ≤ chunk_bytes) }
     requires out_len { length out.old ≡ out_bytes }
-    ensures kept { Kept start (length chunk.now) result (desk block.new line.new bytes.new command.new) }
-    ensures stands { Stands result.state false quiet (point start (desk block.old line.old bytes.old command.old) tally.old) chunk.now (point result.reading (desk block.new line.new bytes.new command.new) tally.new) }
+    ensures kept { Kept start (length chunk.now) result desk.new }
+    ensures stands { Stands result.state false quiet (point start desk.old tally.old) chunk.now (point result.reading desk.new tally.new) }
 {
     let mut reading = start;
     let mut at = 0;
     while log_reading::is_left(reading, chunk.len(), at) {
-        let f = log_chunks::fill(reading, block, line, bytes, command, chunk, at, out);
-        let size = f.size;
+        let f = log_chunks::fill(reading, desk, chunk, at, out);
         at = f.at;
-        let next = f.reading;
-        reading = next;
-        let state = told(streams, tally, &out[0..size], f.refused, quiet);
-        let here = Fed {
-            reading: next,
-            state: state,
-        };
-        if !is_well(here) {
-            return here;
+        reading = f.reading;
+        let state = told(streams, tally, &out[0..f.size], f.refused, quiet);
+        if !is_well(state) {
+            return Fed { reading, state };
         }
     }
     Fed {
-        reading: reading,
+        reading,
         state: State::Well,
     }
 }
 
-fn is_well(fed: Fed) -> bool
-    ensures { result ≡ is_well fed.state }
+fn is_well(state: State) -> bool
+    ensures { result ≡ is_well state }
 {
-    let state = fed.state;
-    match state {
-        State::Well => true,
-        State::Failed => false,
-        State::Refused => false,
-    }
+    matches!(state, State::Well)
 }
 
 fn goes_on(read: Read) -> bool
     ensures { result ≡ reads_on read.state read.ended }
 {
-    if read.ended {
-        return false;
-    }
-    is_told(read)
+    !read.ended && is_well(read.state)
 }
 
 // Whether all that came is told.
 pub fn is_told(read: Read) -> bool
     ensures { result ≡ is_well read.state }
 {
-    let state = read.state;
-    match state {
-        State::Well => true,
-        State::Failed => false,
-        State::Refused => false,
-    }
+    is_well(read.state)
 }
