@@ -7,14 +7,14 @@ ghost use Rattle.layout.specs.Valid.{Valid};
 ghost use Rattle.layout.specs.Block.{load};
 ghost use Rattle.picture.specs.Tables.{TablesOf};
 ghost use Rattle.block_picture.specs.Drawn.{parts_of};
-ghost use Rattle.log_chunks.specs.Steps.{desk};
 ghost use Rattle.log_chunks.specs.Texts.{picture_lines, plate_text};
 ghost use Rattle.log_text.specs.Text.{refusal_text};
 ghost use Rattle.log_writer.specs.Tally.{Sent};
-ghost use Rattle.log_reader.specs.Fed.{LentSizes, chunk_bytes, out_bytes};
+ghost use Rattle.log_reader.specs.Fed.{chunk_bytes, out_bytes};
 ghost use Rattle.log_reader.specs.Read.{Printed};
 ghost use Rattle.log_plate.specs.Closed.{Closed};
 
+use log_chunks::Desk;
 use log_reader::{Print, Read};
 use log_writer::{Failed, State, Streams, write_out};
 use picture_runs::drawing::PictureTables;
@@ -22,25 +22,19 @@ use picture_runs::drawing::PictureTables;
 pub fn plate(
     streams: Streams,
     tally: &mut u64,
-    block: &mut [u8],
-    line: &mut [u8],
-    bytes: &mut [u8],
-    command: &mut [u8],
+    desk: &mut Desk,
     out: &mut [u8],
     chunk: &mut [u8],
 ) -> Print
-    requires lent_sizes { LentSizes (desk block.old line.old bytes.old command.old) }
     requires out_len { (length out.old ≡ out_bytes) × (length chunk.old ≡ chunk_bytes) }
-    ensures { (input : List ℕ) × ((length input ≡ result.got) × Printed result.whole result.ended plate_text input tally.old tally.new) }
+    ensures { (input : List ℕ) × ((length input ≡ result.got) × Printed (is_ok result.sent) result.ended plate_text input tally.old tally.new) }
 {
-    let f = log_reader::read_log(
-        streams, tally, block, line, bytes, command, out, chunk, true,
-    );
-    let whole = print(f, streams, tally, block, out).is_ok();
+    let f = log_reader::read_log(streams, tally, desk, out, chunk, true);
+    let sent = print(f, streams, tally, &desk.block, out);
     Print {
         got: f.got,
         ended: f.ended,
-        whole: whole,
+        sent: sent,
     }
 }
 

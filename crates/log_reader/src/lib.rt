@@ -11,7 +11,7 @@ ghost use Rattle.log_reader.specs.Read.{point, is_well, reads_on, Stands, Turned
 
 use log_chunks::Desk;
 use log_reading::Reading;
-use log_writer::{State, Streams, fail, told};
+use log_writer::{Failed, State, Streams, fail, told};
 use std::io::Read as _;
 
 // The bytes of a read, and of the text between two writes. Small, since they stand on the stack.
@@ -40,7 +40,7 @@ pub struct Read {
 pub struct Print {
     pub got: u64,
     pub ended: bool,
-    pub whole: bool,
+    pub sent: Result<(), Failed>,
 }
 
 // More than a machine makes in thirty years.

@@ -4,44 +4,38 @@
 
 ghost use Rattle.std.specs.Prelude.{List, ◌≡◌, ℕ, length, is_ok};
 ghost use Rattle.layout.specs.Valid.{Valid};
-ghost use Rattle.log_chunks.specs.Steps.{desk};
 ghost use Rattle.log_chunks.specs.Texts.{head_line, replay_text};
 ghost use Rattle.log_writer.specs.Tally.{Sent};
-ghost use Rattle.log_reader.specs.Fed.{LentSizes, chunk_bytes, out_bytes};
+ghost use Rattle.log_reader.specs.Fed.{chunk_bytes, out_bytes};
 ghost use Rattle.log_reader.specs.Read.{Printed};
 
+use log_chunks::Desk;
 use log_reader::Print;
 use log_writer::{Failed, Streams};
 
 pub fn replay(
     streams: Streams,
     tally: &mut u64,
-    block: &mut [u8],
-    line: &mut [u8],
-    bytes: &mut [u8],
-    command: &mut [u8],
+    desk: &mut Desk,
     out: &mut [u8],
     chunk: &mut [u8],
 ) -> Print
-    requires lent_sizes { LentSizes (desk block.old line.old bytes.old command.old) }
     requires out_len { (length out.old ≡ out_bytes) × (length chunk.old ≡ chunk_bytes) }
-    ensures { (input : List ℕ) × ((length input ≡ result.got) × Printed result.whole result.ended replay_text input tally.old tally.new) }
+    ensures { (input : List ℕ) × ((length input ≡ result.got) × Printed (is_ok result.sent) result.ended replay_text input tally.old tally.new) }
 {
-    let f = log_reader::read_log(
-        streams, tally, block, line, bytes, command, out, chunk, false,
-    );
+    let f = log_reader::read_log(streams, tally, desk, out, chunk, false);
     if !log_reader::is_told(f) {
         return Print {
             got: f.got,
             ended: f.ended,
-            whole: false,
+            sent: Err(Failed),
         };
     }
-    let whole = head(streams, tally, block, out).is_ok();
+    let sent = head(streams, tally, &desk.block, out);
     Print {
         got: f.got,
         ended: f.ended,
-        whole: whole,
+        sent: sent,
     }
 }
 

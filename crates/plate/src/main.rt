@@ -3,31 +3,26 @@
 // a read or a write failed.
 #![tactic(auto)]
 
+use log_chunks::Desk;
 use log_writer::Streams;
 use std::process::ExitCode;
 
 fn main(rt: HostRuntime) -> ExitCode {
-    let streams = Streams::of(&rt);
     let mut tally: u64 = 0;
-    let mut block = [0u8; parts::BLOCK];
-    let mut line = [0u8; log_line::LINE_DIGITS];
-    let mut bytes = [0u8; parts::CAPTURE_BYTES];
-    let mut command = [0u8; parts::STORE_BYTES];
+    let mut desk = Desk {
+        block: [0; parts::BLOCK],
+        line: [0; log_line::LINE_DIGITS],
+        bytes: [0; parts::CAPTURE_BYTES],
+        command: [0; parts::STORE_BYTES],
+    };
     let mut out = [0u8; log_reader::OUT_BYTES];
     let mut chunk = [0u8; log_reader::CHUNK_BYTES];
     let print = log_plate::plate(
-        streams,
+        Streams::of(&rt),
         &mut tally,
-        &mut block,
-        &mut line,
-        &mut bytes,
-        &mut command,
+        &mut desk,
         &mut out,
         &mut chunk,
     );
-    if print.whole {
-        ExitCode::SUCCESS
-    } else {
-        ExitCode::FAILURE
-    }
+    log_writer::status(print.sent)
 }
