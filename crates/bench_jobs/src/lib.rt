@@ -3,15 +3,15 @@
 #![tactic(auto)]
 
 ghost use Rattle.std.specs.Prelude.{◌≡◌, ◌*◌, ◌≤◌, ◌<◌, length, true};
-ghost use Rattle.parts.specs.Parts.{block_bytes, capture_bytes, store_bytes};
+ghost use Rattle.parts.specs.Parts.{capture_bytes, store_bytes};
 ghost use Rattle.layout.specs.Block.{load};
 ghost use Rattle.layout.specs.Valid.{Valid};
 ghost use Rattle.picture.specs.Tables.{TablesOf};
 ghost use Rattle.block_picture.specs.Drawn.{parts_of};
-ghost use Rattle.log_line.specs.Line.{line_digits};
-ghost use Rattle.log_chunks.specs.Steps.{desk, left};
-ghost use Rattle.log_reader.specs.Fed.{LentSizes, chunk_bytes, out_bytes};
+ghost use Rattle.log_chunks.specs.Steps.{left};
+ghost use Rattle.log_reader.specs.Fed.{chunk_bytes, out_bytes};
 
+use log_chunks::Desk;
 use log_reader::{CHUNK_BYTES, OUT_BYTES};
 use log_reading::Reading;
 use picture_runs::drawing::PictureTables;
@@ -56,58 +56,28 @@ pub extern "C" fn jobs_play(block: &mut [u8], writes: &[u8], command: &mut [u8])
 // What `replay` prints of a log, or what `plate` does where that is 1 and no line is refused; its rows go by way of the lent words. Answers
 // the text's length, or 0 if a lent part has not the length that it must have or the text has no room.
 #[unsafe(no_mangle)]
-pub extern "C" fn jobs_print(
-    plate: u8,
-    input: &[u8],
-    block: &mut [u8],
-    line: &mut [u8],
-    bytes: &mut [u8],
-    command: &mut [u8],
-    words: &mut [u16],
-    text: &mut [u8],
-) -> usize {
-    if !are_sized(
-        input.len(),
-        block.len(),
-        line.len(),
-        bytes.len(),
-        command.len(),
-    ) {
+pub extern "C" fn jobs_print(plate: u8, input: &[u8], words: &mut [u16], text: &mut [u8]) -> usize {
+    if input.len() > 0xFFFFFFFF || words.len() != 256 || text.len() < PLATE {
         return 0;
     }
-    if words.len() != 256 || text.len() < PLATE {
-        return 0;
-    }
+    let mut desk = Desk {
+        block: [0; parts::BLOCK],
+        line: [0; log_line::LINE_DIGITS],
+        bytes: [0; parts::CAPTURE_BYTES],
+        command: [0; parts::STORE_BYTES],
+    };
     let prints = Prints::from(plate);
-    let n = read_log(input, block, line, bytes, command, text, prints);
-    finish(prints, block, words, text, n)
-}
-
-fn are_sized(input: usize, block: usize, line: usize, bytes: usize, command: usize) -> bool
-    ensures { (result ≡ true) → ((input < 4294967296) × ((block ≡ block_bytes) × ((line ≡ line_digits) × ((bytes ≡ capture_bytes) × (command ≡ store_bytes))))) }
-{
-    input <= 0xFFFFFFFF
-        && block == parts::BLOCK
-        && line == log_line::LINE_DIGITS
-        && bytes == parts::CAPTURE_BYTES
-        && command == parts::STORE_BYTES
+    let n = read_log(input, &mut desk, text, prints);
+    finish(prints, &desk.block, words, text, n)
 }
 
 // All of a log, a chunk at a time, from a fresh unit on. The text of each fill stands behind the one before, or in its place where none
 // is kept. Answers the length of what is kept; it stops where the next fill has no room.
-fn read_log(
-    input: &[u8],
-    block: &mut [u8],
-    line: &mut [u8],
-    bytes: &mut [u8],
-    command: &mut [u8],
-    text: &mut [u8],
-    prints: Prints,
-) -> usize
-    requires { LentSizes (desk block.old line.old bytes.old command.old) × (length input.now < 4294967296) }
-    ensures { Valid block.new × (result ≤ length text.old) }
+fn read_log(input: &[u8], desk: &mut Desk, text: &mut [u8], prints: Prints) -> usize
+    requires { length input.now < 4294967296 }
+    ensures { Valid desk.new.block × (result ≤ length text.old) }
 {
-    block_fresh::post_boot(block);
+    block_fresh::post_boot(&mut desk.block);
     let mut reading = log_reading::begin();
     let mut at: usize = 0;
     let mut n: usize = 0;
@@ -115,10 +85,7 @@ fn read_log(
         let end = at + chunk_size(input.len() - at);
         let f = log_chunks::fill(
             reading,
-            block,
-            line,
-            bytes,
-            command,
+            desk,
             &input[at..end],
             0,
             &mut text[n..n + OUT_BYTES],
@@ -181,23 +148,12 @@ fn picture(block: &[u8], words: &mut [u16], text: &mut [u8])
     rows(block, &tables, words, text);
 }
 
-fn rows(
-    block: &[u8],
-    tables: &PictureTables,
-    words: &mut [u16],
-    text: &mut [u8],
-)
+fn rows(block: &[u8], tables: &PictureTables, words: &mut [u16], text: &mut [u8])
     requires valid { Valid block.now × ((length words.old ≡ 256) × (229600 ≤ length text.old)) }
     requires tables_of { TablesOf (parts_of (load block.now)) tables.now.spreads tables.now.border tables.now.game }
 {
     for y in 0..224 {
         let at = ROW * y;
-        log_chunks::row_line(
-            block,
-            tables,
-            y,
-            words,
-            &mut text[at..at + ROW],
-        );
+        log_chunks::row_line(block, tables, y, words, &mut text[at..at + ROW]);
     }
 }

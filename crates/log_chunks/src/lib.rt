@@ -221,13 +221,7 @@ fn is_refused(step: Step) -> bool
 
 // Steps, one after the other, with their texts together at the front of `out`: up to a refused line, while the next text has room, and
 // while anything is left of the chunk or of its last line's writes.
-pub fn fill(
-    start: Reading,
-    desk: &mut Desk,
-    chunk: &[u8],
-    from: usize,
-    out: &mut [u8],
-) -> Filled
+pub fn fill(start: Reading, desk: &mut Desk, chunk: &[u8], from: usize, out: &mut [u8]) -> Filled
     requires fit { Fit start desk.old }
     requires chunk_bound { (start.number + length chunk.now < most64 + from) × ((from ≤ length chunk.now) × (length chunk.now < most64)) }
     requires out_len_bound { length out.old < most64 }

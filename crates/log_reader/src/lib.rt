@@ -111,15 +111,7 @@ fn turn(
     if n == 0 {
         return finish(start, streams, tally, desk, out, quiet);
     }
-    let f = feed(
-        start.reading,
-        streams,
-        tally,
-        desk,
-        out,
-        &chunk[..n],
-        quiet,
-    );
+    let f = feed(start.reading, streams, tally, desk, out, &chunk[..n], quiet);
     Read {
         reading: f.reading,
         state: f.state,
@@ -144,15 +136,7 @@ fn finish(
 {
     let lf = [10u8; 1];
     let k = log_reading::last_lf(start.reading);
-    let f = feed(
-        start.reading,
-        streams,
-        tally,
-        desk,
-        out,
-        &lf[0..k],
-        quiet,
-    );
+    let f = feed(start.reading, streams, tally, desk, out, &lf[0..k], quiet);
     Read {
         reading: f.reading,
         state: f.state,

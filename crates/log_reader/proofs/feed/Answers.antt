@@ -56,8 +56,7 @@ loop-streams-preserved c =
     let f = c.fill-f in
     let w = c.told-state in
     let p = point args.start args.desk.now args.tally.now in
-    let q = point a.reading a.desk a.tally in
-    (
+    let q = point a.reading a.desk a.tally in (
       stands_well args.quiet p args.chunk.now f.result.at w.result _ (sym c.is_well.ensures ∙ c.if-not-is_well.false)
           (told-turn args.quiet p q args.chunk.now a.at a.out f.result _ _ a.invariant.0 f.ensures _ refl w.new.tally w.result w.ensures),
       f.auto.out ∙ a.invariant.1,
