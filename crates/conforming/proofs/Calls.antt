@@ -11,8 +11,7 @@ use Rattle.pulses.specs.Bytes.{Bytes, packets_in, malformed}
 use Rattle.pulses.specs.Encode.{pulses_of, Encodes}
 use Rattle.pulses.specs.Trip.{NoneHeld}
 use Rattle.pulses.specs.Verdict.{announces, announced, conforms, Judges}
-use Rattle.pulses.specs.declared.Encoded.TheVariants as E
-use Rattle.pulses.specs.declared.Conformance.TheVariants as C
+use Rattle.std.specs.Prelude.{Ok}
 use Rattle.pulses.proofs.Encodes.{verdict-conforms}
 use Rattle.layout.specs.Block.{load, save}
 use Rattle.layout.specs.Sgb.{Sgb}
@@ -33,7 +32,7 @@ unfolding sent_to sent_items
 sent_all u c t k h = all-carried c (code_of (get_or c 0 0)) t h refl k (arrived u c)
 
 module _ (b buffer c : List ℕ) (k : valid b ≡ true) (room : store_bytes ≤ length buffer) (bytes : Bytes c) (free : NoneHeld (load b).port.rx)
-    (says : Judges c C.Conforms) (h : announces (code_of (get_or c 0 0)) ≡ true) where
+    (says : Judges c (Ok true)) (h : announces (code_of (get_or c 0 0)) ≡ true) where
   -- the block at the end is that of the unit in which every item that was announced is carried out
   pub calls-whole : (performed b buffer (map write (pulses_of (packets_in c) c))).block ≡ save (sent_items (load b) c (announced (code_of (get_or c 0 0)) c))
   unfolding returned
@@ -43,7 +42,7 @@ module _ (b buffer c : List ℕ) (k : valid b ≡ true) (room : store_bytes ≤ 
       ∙ ap save (sent_all (load b) c v.0 v.1 h)
 
   -- by the contracts alone: the writes that `encode` answered, and any calls that `write_joypad` allows
-  pub contracts-whole : (out after : List ℕ) (n : ℕ) → Encodes c out (E.Writes n) after
+  pub contracts-whole : (out after : List ℕ) (n : ℕ) → Encodes c out (Ok n) after
       → (o : Performed) → Allowed b buffer (map write (take n after)) o
       → o.block ≡ save (sent_items (load b) c (announced (code_of (get_or c 0 0)) c))
   unfolding returned
@@ -53,7 +52,7 @@ module _ (b buffer c : List ℕ) (k : valid b ≡ true) (room : store_bytes ≤ 
       ∙ ap save (sent_all (load b) c v.0 v.1 h)
 
   -- so the map in that block is the one before, with every item that was announced carried out
-  pub contracts-map : (out after : List ℕ) (n : ℕ) → Encodes c out (E.Writes n) after
+  pub contracts-map : (out after : List ℕ) (n : ℕ) → Encodes c out (Ok n) after
       → (o : Performed) → Allowed b buffer (map write (take n after)) o
       → (load o.block).game.map ≡ items_done (code_of (get_or c 0 0)) c (announced (code_of (get_or c 0 0)) c) (load b).game.map
   unfolding arrived sent_items after_items with_map with_pads
