@@ -10,7 +10,7 @@ pub extern "C" fn sporedrift_new(block: &mut [u8]) -> u32
     ensures value { result ≡ fresh_answer block.old }
     ensures block_after { block.new ≡ new_block block.old }
 {
-    unit::new(block) as u32
+    export_answers::coded(unit::new(block))
 }
 
 #[unsafe(no_mangle)]
@@ -18,14 +18,14 @@ pub extern "C" fn sporedrift_post_boot(block: &mut [u8]) -> u32
     ensures value { result ≡ fresh_answer block.old }
     ensures block_after { block.new ≡ post_boot_block block.old }
 {
-    unit::post_boot(block) as u32
+    export_answers::coded(unit::post_boot(block))
 }
 
 #[unsafe(no_mangle)]
 pub extern "C" fn sporedrift_check(block: &[u8]) -> u32
     ensures { result ≡ refusal_of block.now }
 {
-    unit::check(block).0
+    export_answers::coded(unit::check(block))
 }
 
 #[unsafe(no_mangle)]
@@ -34,7 +34,7 @@ pub extern "C" fn sporedrift_write_joypad(block: &mut [u8], value: u8, command: 
     ensures block_after { block.new ≡ write_block block.old value command.old }
     ensures command_after { command.new ≡ write_command block.old value command.old }
 {
-    export_answers::of_written(unit::write_joypad(block, value, command))
+    export_answers::coded(unit::write_joypad(block, value, command))
 }
 
 #[unsafe(no_mangle)]
@@ -43,7 +43,7 @@ pub extern "C" fn sporedrift_play(block: &mut [u8], writes: &[u8], command: &mut
     ensures block_after { block.new ≡ play_block block.old writes.now command.old }
     ensures command_after { command.new ≡ play_command block.old writes.now command.old }
 {
-    export_answers::of_played(unit::play(block, writes, command))
+    export_answers::coded(unit::play(block, writes, command))
 }
 
 #[unsafe(no_mangle)]
@@ -51,5 +51,5 @@ pub extern "C" fn sporedrift_update_screen(block: &mut [u8], screen: &[u8]) -> u
     ensures value { result ≡ coded optional (screen_answer block.old screen.now) }
     ensures block_after { block.new ≡ screen_block block.old screen.now }
 {
-    export_answers::of_shown(unit::update_screen(block, screen))
+    export_answers::coded(unit::update_screen(block, screen))
 }

@@ -8,20 +8,17 @@ ghost use Rattle.export.specs.Parts.{capture, tile_at};
 pub extern "C" fn sporedrift_displayed_screen<'a>(live: &'a [u8], frozen: &'a [u8], mode: u8) -> u32
     ensures { result ≡ optional (capture live.now frozen.now mode) }
 {
-    if screen::displayed_screen(live, frozen, mode).len() == 0 {
+    if screen::displayed_screen(live, frozen, mode).is_empty() {
         return export_answers::NONE;
     }
-    if mode == 1 {
-        return export_answers::value(1);
-    }
-    export_answers::value(0)
+    export_answers::value(u32::from(mode == 1))
 }
 
 #[unsafe(no_mangle)]
 pub extern "C" fn sporedrift_tile(tiles: &[u8], n: usize) -> u32
     ensures { result ≡ optional (tile_at tiles.now n) }
 {
-    if border::tile(tiles, n).len() == 0 {
+    if border::tile(tiles, n).is_empty() {
         return export_answers::NONE;
     }
     export_answers::value((n * 32) as u32)

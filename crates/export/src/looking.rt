@@ -12,35 +12,35 @@ use colour::{Rgb8, Rgb555};
 pub extern "C" fn sporedrift_mask_mode(block: &[u8]) -> u32
     ensures { result ≡ coded value (mode_of block.now) }
 {
-    export_answers::of_number(view::mask_mode(block))
+    export_answers::coded(view::mask_mode(block))
 }
 
 #[unsafe(no_mangle)]
 pub extern "C" fn sporedrift_backdrop(block: &[u8]) -> u32
     ensures { result ≡ coded value (backdrop_answer block.now) }
 {
-    export_answers::of_colour(view::backdrop(block))
+    export_answers::coded(view::backdrop(block))
 }
 
 #[unsafe(no_mangle)]
 pub extern "C" fn sporedrift_color_at(block: &[u8], x: usize, y: usize, shade: u8) -> u32
     ensures { result ≡ coded value (shade_answer block.now x y shade) }
 {
-    export_answers::of_colour(view::color_at(block, x, y, shade))
+    export_answers::coded(view::color_at(block, x, y, shade))
 }
 
 #[unsafe(no_mangle)]
 pub extern "C" fn sporedrift_map_entry(block: &[u8], column: usize, row: usize) -> u32
     ensures { result ≡ coded value (entry_answer block.now column row) }
 {
-    export_answers::of_entry(view::map_entry(block, column, row))
+    export_answers::coded(view::map_entry(block, column, row))
 }
 
 #[unsafe(no_mangle)]
 pub extern "C" fn sporedrift_border_color_at(block: &[u8], x: usize, y: usize) -> u32
     ensures { result ≡ coded optional (border_answer block.now x y) }
 {
-    export_answers::of_border(view::border_color_at(block, x, y))
+    export_answers::coded(view::border_color_at(block, x, y))
 }
 
 #[unsafe(no_mangle)]
@@ -48,7 +48,7 @@ pub extern "C" fn sporedrift_row(block: &[u8], y: usize, out: &mut [u16]) -> u32
     ensures value { result ≡ coded value (row_answer block.now y out.old) }
     ensures out_after { out.new ≡ leaves (row_answer block.now y out.old) (row_drawn block.now y out.old) out.old }
 {
-    export_answers::of_number(view::row(block, y, out))
+    export_answers::coded(view::row(block, y, out))
 }
 
 #[unsafe(no_mangle)]
@@ -56,7 +56,7 @@ pub extern "C" fn sporedrift_picture(block: &[u8], out: &mut [u16]) -> u32
     ensures value { result ≡ coded value (picture_answer block.now out.old) }
     ensures out_after { out.new ≡ leaves (picture_answer block.now out.old) (picture_drawn block.now out.old) out.old }
 {
-    export_answers::of_number(view::picture(block, out))
+    export_answers::coded(view::picture(block, out))
 }
 
 #[unsafe(no_mangle)]
@@ -69,5 +69,5 @@ pub extern "C" fn sporedrift_to_rgb8(word: u16) -> u32
 fn of_rgb(c: Rgb8) -> u32
     ensures { result ≡ value (rgb_number c) }
 {
-    export_answers::value(((c.r as u32) * 256 + (c.g as u32)) * 256 + (c.b as u32))
+    export_answers::value((u32::from(c.r) * 256 + u32::from(c.g)) * 256 + u32::from(c.b))
 }

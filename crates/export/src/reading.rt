@@ -11,7 +11,7 @@ pub extern "C" fn sporedrift_parse_line(text: &[u8], bytes: &mut [u8]) -> u32
     ensures value { result ≡ coded content (line_answer text.now bytes.old) }
     ensures bytes_after { bytes.new ≡ line_bytes text.now bytes.old }
 {
-    export_answers::of_line(log_line::parse(text, bytes))
+    export_answers::coded(log_line::parse(text, bytes))
 }
 
 #[unsafe(no_mangle)]

@@ -10,14 +10,14 @@ pub extern "C" fn sporedrift_encode(command: &[u8], out: &mut [u8]) -> u32
     ensures value { result ≡ coded value (encoding command.now (length out.old)) }
     ensures out_after { out.new ≡ encoded command.now out.old }
 {
-    export_answers::of_encoded(pulses::encode(command, out))
+    export_answers::coded(pulses::encode(command, out))
 }
 
 #[unsafe(no_mangle)]
 pub extern "C" fn sporedrift_verdict(command: &[u8]) -> u32
     ensures { result ≡ coded truth (judged command.now) }
 {
-    export_answers::of_verdict(pulses::verdict(command))
+    export_answers::coded(pulses::verdict(command))
 }
 
 #[unsafe(no_mangle)]
@@ -25,5 +25,5 @@ pub extern "C" fn sporedrift_page_screen(page: &[u8], screen: &mut [u8]) -> u32
     ensures value { result ≡ coded value (page_screen_answer page.now screen.old) }
     ensures screen_after { screen.new ≡ page_screen_left page.now screen.old }
 {
-    export_answers::of_number(pages::page_screen(page, screen))
+    export_answers::coded(pages::page_screen(page, screen))
 }

@@ -1,8 +1,8 @@
 -- What the call tells, as a number.
-use mathlib.Core.Path.{ap, ◌∙◌}
-use Rattle.export_answers.specs.Coded.{coded, optional}
+use mathlib.Core.Path.{◌∙◌}
+use Rattle.export_answers.specs.Coded.{optional}
+use Rattle.export_answers.proofs.Crossing.{crosses_as, landed-optional}
 use Rattle.export.proofs.changing.sporedrift_update_screen.Goals as goal
 
 pub returns : goal.returns
-returns c = let s = c.update_screen in
-    record { value = c.of_shown.ensures ∙ ap (coded optional) s.ensures.result_value; block_after = s.ensures.block_after }
+returns c = record { value = c.coded.ensures ∙ crosses_as _ optional _ landed-optional _ _ c.update_screen.ensures.result_value; block_after = c.update_screen.ensures.block_after }

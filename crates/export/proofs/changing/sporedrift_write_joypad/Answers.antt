@@ -1,8 +1,8 @@
 -- What the call tells, as a number.
-use mathlib.Core.Path.{ap, ◌∙◌}
-use Rattle.export_answers.specs.Coded.{coded, optional}
+use mathlib.Core.Path.{◌∙◌}
+use Rattle.export_answers.specs.Coded.{optional}
+use Rattle.export_answers.proofs.Crossing.{crosses_as, packets-optional}
 use Rattle.export.proofs.changing.sporedrift_write_joypad.Goals as goal
 
 pub returns : goal.returns
-returns c = let w = c.write_joypad in
-    record { value = c.of_written.ensures ∙ ap (coded optional) w.ensures.result_value; block_after = w.ensures.block_after; command_after = w.ensures.command_after }
+returns c = record { value = c.coded.ensures ∙ crosses_as _ optional _ packets-optional _ _ c.write_joypad.ensures.result_value; block_after = c.write_joypad.ensures.block_after; command_after = c.write_joypad.ensures.command_after }

@@ -1,7 +1,8 @@
 -- What the call tells, as a number.
-use mathlib.Core.Path.{ap, ◌∙◌}
-use Rattle.export_answers.specs.Coded.{coded, value}
+use mathlib.Core.Path.{◌∙◌, refl}
+use Rattle.export_answers.specs.Coded.{value}
+use Rattle.export_answers.proofs.Crossing.{crosses_as}
 use Rattle.export.proofs.looking.sporedrift_color_at.Goals as goal
 
 pub returns : goal.returns
-returns c = c.of_colour.ensures ∙ ap (coded value) c.color_at.ensures
+returns c = c.coded.ensures ∙ crosses_as _ value _ (λ v. refl) _ _ c.color_at.ensures

@@ -1,12 +1,12 @@
 -- What the call tells, as a number.
-use mathlib.Core.Path.{sym, ap, ◌∙◌, subst}
-use Rattle.export_answers.specs.Coded.{coded, content, ContentFits}
+use mathlib.Core.Path.{◌∙◌, refl}
+use Rattle.export_answers.specs.Coded.{content, ContentFits}
+use Rattle.export_answers.proofs.Crossing.{crosses_as, fits-as, line-content}
 use Rattle.export.proofs.Fitting.{line-fits}
 use Rattle.export.proofs.reading.sporedrift_parse_line.Goals as goal
 
-pub of_line-requires : goal.of_line-requires
-of_line-requires c = subst ContentFits (sym c.parse.ensures.result_value) (line-fits _ _)
+pub coded-requires : goal.coded-requires
+coded-requires c = fits-as _ ContentFits _ _ (line-content _ ∙ c.parse.ensures.result_value) (line-fits _ _)
 
 pub returns : goal.returns
-returns c = let p = c.parse in
-    record { value = c.of_line.ensures ∙ ap (coded content) p.ensures.result_value; bytes_after = p.ensures.bytes_after }
+returns c = record { value = c.coded.ensures ∙ crosses_as _ content _ (λ v. refl) _ _ (line-content _ ∙ c.parse.ensures.result_value); bytes_after = c.parse.ensures.bytes_after }

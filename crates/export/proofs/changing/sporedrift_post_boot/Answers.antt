@@ -1,0 +1,7 @@
+-- What the call tells, as a number.
+use mathlib.Core.Path.{◌∙◌}
+use Rattle.export_answers.proofs.Crossing.{unit-crosses}
+use Rattle.export.proofs.changing.sporedrift_post_boot.Goals as goal
+
+pub returns : goal.returns
+returns c = record { value = c.coded.ensures ∙ unit-crosses _ ∙ c.post_boot.ensures.value; block_after = c.post_boot.ensures.block_after }
