@@ -1,6 +1,6 @@
 -- The rules carry out as many items as are announced, or as many as end inside the command. Of a command that conforms these are all, and of one
 -- whose packets don't hold what it announces they are fewer.
-use Prim.Native.Nat.{ℕ, ◌+◌, ◌-◌, ◌*◌, ◌/◌, ◌<◌, min}
+use Prim.Native.Nat.{ℕ, ◌*◌, ◌<◌, min}
 use native.Mathlib.Omega.{arith}
 use mathlib.Core.Path.{◌≡◌, refl, sym, ap, ◌∙◌}
 use mathlib.Core.Bool.{true, false, ◌&&◌}

@@ -1,6 +1,6 @@
 -- A page that is sent lands, over the public calls: from any valid block and with room for a command, a write that answers a transfer command, two
 -- screens of any content, then the one that carries the page, with writes between that complete no other transfer command.
-use Prim.Native.Nat.{ℕ, suc, ◌+◌, ◌-◌, ◌<◌, ◌≤◌}
+use Prim.Native.Nat.{ℕ, suc, ◌-◌, ◌<◌, ◌≤◌}
 use native.Mathlib.Omega.{arith}
 use mathlib.Core.Path.{◌≡◌, refl, sym, ap, subst, ◌∙◌}
 use mathlib.Core.Bool.{Bool, true, false, cond}
@@ -15,7 +15,8 @@ use Rattle.parts.specs.Parts.{store_bytes, tiles_at, tiles_bytes, half_bytes, up
 use Rattle.transfer.specs.Page.{page_bytes}
 use Rattle.transfer.specs.Pending.{landed_of, number_of}
 use Rattle.transfer.specs.declared.pending.Pending.TheVariants.{In}
-use Rattle.transfer.specs.declared.pending.Landed.TheVariants as kind
+use Rattle.std.specs.Prelude.{Result, Ok, None}
+use Rattle.refusal.specs.declared.Refusal.{Refusal}
 use Rattle.transfer.specs.declared.pending.Transfer.{Transfer}
 use Rattle.transfer.specs.declared.pending.Transfer.TheVariants.{Palettes, Attributes, BorderTiles, BorderMap}
 use Rattle.layout.specs.Block.{load, save}
@@ -32,9 +33,6 @@ use Rattle.rules.specs.Write.{written}
 use Rattle.unit.specs.Together.{Reply, command_held, Performed, performed, replies_of, buffer_after, sight_of, performed_by}
 use Rattle.unit.proofs.Together.{performed-calls, replies-commands}
 use Rattle.unit.proofs.Allowed.{Allowed, allowed-performed}
-use Rattle.view.specs.declared.Number.{Number}
-use Rattle.view.specs.declared.Number.TheVariants as N
-use Rattle.view.specs.Answers.{number_told}
 use Rattle.pages.specs.Pixels.{screen_of, page_screen_answer, page_screen_left}
 use Rattle.pages.proofs.Calling.{page-given}
 use Rattle.pages.proofs.page_screen.Reads as page-screen
@@ -77,7 +75,7 @@ unfolding unlanded nothing_landed
 sights_none [] = refl
 sights_none (x ∷ xs) = λ i. one (accepts x) i ∷ sights_none xs i
   where
-    one : (c : Bool) → sight_of (cond c (log.took kind.Nothing) (log.refused 3)) ≡ cond c (given none) (refused 3)
+    one : (c : Bool) → sight_of (cond c (log.took None) (log.refused 3)) ≡ cond c (given none) (refused 3)
     one true = unfold sight_of landed_of in refl
     one false = unfold sight_of in refl
 
@@ -166,18 +164,17 @@ module _ (b buffer page : List ℕ) (v : ℕ) (l : List Act) (t : Transfer) (k :
 -- ---- by the contracts alone
 
 -- a call of `page_screen` by its contract: it was lent the page and the output, answered r, and left the output so
-pub data PageCall (page out : List ℕ) (r : Number) (after : List ℕ) : Type 0 where
+pub data PageCall (page out : List ℕ) (r : Result ℕ Refusal) (after : List ℕ) : Type 0 where
   called : (k : _) (a : _) (e : _) → page-screen.Learnt k a r e → a.0.now ≡ page → a.1.0.now ≡ out → e.1.0.now ≡ after → PageCall page out r after
 
-page_made : (page out after : List ℕ) (n : ℕ) → PageCall page out (N.Is n) after → (length page ≡ page_bytes) × (take n after ≡ screen_of page)
-unfolding number_told
+page_made : (page out after : List ℕ) (n : ℕ) → PageCall page out (Ok n) after → (length page ≡ page_bytes) × (take n after ≡ screen_of page)
 page_made page out after n (called k a e p ep eo ea) =
     page-given page out after n (p.0 ∙ (λ i. page_screen_answer (ep i) (eo i))) (sym ea ∙ p.1 ∙ (λ i. page_screen_left (ep i) (eo i)))
 
 -- the screen that `page_screen` answered, at the front of its output, shown by any calls that `write_joypad` and `update_screen` allow
 module _ (b buffer page : List ℕ) (v : ℕ) (l : List Act) (t : Transfer) (k : valid b ≡ true) (room : store_bytes ≤ length buffer)
     (bytes : (i : ℕ) → get_or page i 0 < 256) (two : screens_taken (screens_of l) ≡ 2) where
-  pub contracts-page : (out after : List ℕ) (n : ℕ) → PageCall page out (N.Is n) after
+  pub contracts-page : (out after : List ℕ) (n : ℕ) → PageCall page out (Ok n) after
       → (o : Performed) → Allowed b buffer (write v ∷ (l ++ (screen (take n after) ∷ []))) o → AskedFirst t (map command_held o.replies)
       → (o ≡ then_page t page (performed b buffer (write v ∷ l))) × LiesIn t page o.block
   contracts-page out after n c o a s =

@@ -16,8 +16,8 @@ use Rattle.transfer.specs.Pending as pending
 use Rattle.transfer.specs.Landing.{palettes_landed, files_landed, tiles_landed, map_landed}
 use Rattle.transfer.specs.declared.pending.Pending.{Pending}
 use Rattle.transfer.specs.declared.pending.Pending.TheVariants.{Nothing, In}
-use Rattle.transfer.specs.declared.pending.Landed.{Landed}
-use Rattle.transfer.specs.declared.pending.Landed.TheVariants as kind
+use Rattle.std.specs.Prelude.{Some, None}
+use Rattle.std.specs.Prelude as code
 use Rattle.transfer.specs.declared.pending.Transfer.{Transfer}
 use Rattle.transfer.specs.declared.pending.Transfer.TheVariants.{Palettes, Attributes, BorderTiles, BorderMap}
 use Rattle.commands.specs.Command.{Command, plain, fixed, pal_set, attr_set, freeze, transfer}
@@ -70,18 +70,18 @@ none-keeps u v e = unasked _ u.snes (sym (asks-carries _) ∙ e)
 -- ---- screens
 
 -- a screen that is not the last one that is awaited
-waits : (s : Snes) (x : List ℕ) (n : ℕ) (t : Transfer) → s.pending ≡ In (suc (suc n)) t → (landing s ≡ kind.Nothing) × ((shown s x).pending ≡ In (suc n) t)
+waits : (s : Snes) (x : List ℕ) (n : ℕ) (t : Transfer) → s.pending ≡ In (suc (suc n)) t → (landing s ≡ None) × ((shown s x).pending ≡ In (suc n) t)
 unfolding shown landing pending.lands pending.fallen landed captured
 waits s x n t e =
     let k : leb (suc (suc n)) 1 ≡ false = lt-leb (suc (suc n)) 1 (omega arith) in
-    let l : landing s ≡ kind.Nothing = ap pending.lands e ∙ ap (λ (c : Bool). cond c (kind.Page t) kind.Nothing) k in
+    let l : landing s ≡ None = ap pending.lands e ∙ ap (λ (c : Bool). cond c (Some t) None) k in
     let less : suc (suc n) - 1 ≡ suc n = omega arith in
     let f : pending.fallen s.pending ≡ In (suc n) t = ap pending.fallen e ∙ ap₂ (λ (c : Bool) (m : ℕ). cond c Nothing (In m t)) k less in
-    (l, ap (λ (w : Landed). (landed w x (captured x s)).pending) l ∙ f)
+    (l, ap (λ (w : code.Option Transfer). (landed w x (captured x s)).pending) l ∙ f)
 
 -- what the rules answer where nothing lands
 unfoldable pub unlanded : List ℕ → Seen
-unlanded x = cond (accepts x) (took kind.Nothing) (refused 3)
+unlanded x = cond (accepts x) (took None) (refused 3)
 
 -- one screen, where n more are taken behind it before the last: it is taken and nothing lands, or it is refused
 wait_turn : (u : Sgb) (x : List ℕ) (n : ℕ) (t : Transfer) → u.snes.pending ≡ In (suc (cond (accepts x) (suc n) n)) t
@@ -90,7 +90,7 @@ unfolding sees shown_if seen unlanded
 wait_turn u x n t e = go (accepts x) e
   where
     go : (c : Bool) → u.snes.pending ≡ In (suc (cond c (suc n) n)) t
-        → ((cond c (shown u.snes x) u.snes).pending ≡ In (suc n) t) × (cond c (took (landing u.snes)) (refused 3) ≡ cond c (took kind.Nothing) (refused 3))
+        → ((cond c (shown u.snes x) u.snes).pending ≡ In (suc n) t) × (cond c (took (landing u.snes)) (refused 3) ≡ cond c (took None) (refused 3))
     go true f = let w = waits u.snes x n t f in (w.1, ap took w.0)
     go false f = (f, refl)
 
@@ -106,7 +106,7 @@ waiting t (screen x ∷ l) u e q =
     (r.0, λ i. w.1 i ∷ r.1 i)
 
 -- the last screen, with a page on it
-lands_page : (t : Transfer) (x page : List ℕ) (s : Snes) → page_of x ≡ page → landed (kind.Page t) x s ≡ page_in t page s
+lands_page : (t : Transfer) (x page : List ℕ) (s : Snes) → page_of x ≡ page → landed (Some t) x s ≡ page_in t page s
 unfolding landed page_in palettes_landed files_landed tiles_landed map_landed
 lands_page Palettes x page s e = ap (λ (p : List ℕ). with_system p s) e
 lands_page Attributes x page s e = ap (λ (p : List ℕ). with_files (take files_bytes p) s) e
@@ -115,7 +115,7 @@ lands_page (BorderTiles true) x page s e = ap (λ (p : List ℕ). with_tiles (ov
 lands_page BorderMap x page s e = ap (λ (p : List ℕ). with_border (take border_map_bytes p ++ take border_palettes_bytes (drop 0x800 p)) s) e
 
 module _ (t : Transfer) (page : List ℕ) (u : Sgb) (e : u.snes.pending ≡ In 1 t) where
-  due : landing u.snes ≡ kind.Page t
+  due : landing u.snes ≡ Some t
   unfolding landing pending.lands
   due = ap pending.lands e
 
@@ -136,7 +136,7 @@ module _ (t : Transfer) (page : List ℕ) (u : Sgb) (e : u.snes.pending ≡ In 1
   accepted = eq-eqb (length (screen_of page)) capture_bytes (screen_long page)
 
   -- it answers the kind
-  pub third-seen : seen u.snes (screen_of page) ≡ took (kind.Page t)
+  pub third-seen : seen u.snes (screen_of page) ≡ took (Some t)
   unfolding seen
   third-seen = rw accepted (ap took due)
 
@@ -146,7 +146,7 @@ module _ (t : Transfer) (page : List ℕ) (u : Sgb) (e : u.snes.pending ≡ In 1
   third-sent long bytes =
       rw accepted
       (ap (λ (s : Snes). record { port = u.port; game = u.game; snes = s })
-      (ap₂ (λ (w : Landed) (s : Snes). landed w (screen_of page) s) due takes
+      (ap₂ (λ (w : code.Option Transfer) (s : Snes). landed w (screen_of page) s) due takes
       ∙ lands_page t (screen_of page) page (with_screen (screen_of page) u.snes) (page-back page long bytes)))
 
 -- ---- a log, and one screen more
