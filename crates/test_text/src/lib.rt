@@ -25,8 +25,15 @@ pub fn number(stdout: Stdout, n: u64) {
 
 // A refusal's number, and the offset that may come with it.
 pub fn refused(stdout: Stdout, told: Refusal) {
-    number(stdout, u64::from(told.number()));
-    say(stdout, b" at ");
-    number(stdout, told.offset() as u64);
-    say(stdout, b"\n");
+    let number = told.number();
+    let offset = told.offset();
+    let _ = println!(stdout; "{number} at {offset}");
+}
+
+// The same of a call that can only be refused: 0 at 0 where it isn't.
+pub fn checked(stdout: Stdout, told: Result<(), Refusal>) {
+    match told {
+        Ok(()) => say(stdout, b"0 at 0\n"),
+        Err(r) => refused(stdout, r),
+    }
 }
