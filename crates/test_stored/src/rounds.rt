@@ -15,9 +15,9 @@ pub fn all(stdout: Stdout, block: &mut [u8]) {
 
 fn start(round: usize, block: &mut [u8]) {
     if round % 304 == 0 {
-        unit::post_boot(block);
+        let _ = unit::post_boot(block);
     } else if round % 152 == 0 {
-        unit::new(block);
+        let _ = unit::new(block);
     }
 }
 

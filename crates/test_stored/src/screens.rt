@@ -1,9 +1,9 @@
 // The round's screens.
 use crate::digest::number;
+use refusal::Refusal;
 use test_seeds::screens::draw;
 use test_seeds::{below, step, stream};
-use transfer::pending::Landed;
-use unit::Shown;
+use transfer::pending::Transfer;
 
 // None to three of them, so that a transfer lands in its own round, in a later one, or is replaced before it does.
 pub fn show(round: usize, block: &mut [u8], h: u64) -> u64 {
@@ -24,16 +24,10 @@ fn update(count: usize, from: u64, block: &mut [u8], screen: &mut [u8], h: u64) 
 }
 
 // The kind that landed, 255 for none; a refusal n is 256 + n.
-fn answer(h: u64, told: Shown) -> u64 {
-    match told {
-        Shown::Refused(n) => number(h, 256 + (n.0 as u64)),
-        Shown::Took(landed) => number(h, kind(landed)),
-    }
-}
-
-fn kind(landed: Landed) -> u64 {
-    match landed {
-        Landed::Nothing => 255,
-        Landed::Page(transfer) => u64::from(transfer.number()),
-    }
+fn answer(h: u64, told: Result<Option<Transfer>, Refusal>) -> u64 {
+    let n = match told {
+        Err(n) => 256 + u64::from(n.code()),
+        Ok(landed) => landed.map_or(255, |transfer| u64::from(transfer.number())),
+    };
+    number(h, n)
 }

@@ -1,6 +1,6 @@
 // The round's writes, one by one.
 use crate::digest::{all, number};
-use unit::Written;
+use refusal::Refusal;
 
 // The digest of all that the round's writes tell.
 pub fn write(round: usize, first: u8, block: &mut [u8], h: u64) -> u64 {
@@ -21,10 +21,10 @@ fn send(block: &mut [u8], writes: &[u8], command: &mut [u8], h: u64) -> u64 {
 }
 
 // Nothing is 0, a refusal n 256 + n; a command is its packets and the whole buffer, of which the tail is kept.
-fn answer(h: u64, told: Written, command: &[u8]) -> u64 {
+fn answer(h: u64, told: Result<Option<u8>, Refusal>, command: &[u8]) -> u64 {
     match told {
-        Written::Refused(n) => number(h, 256 + (n.0 as u64)),
-        Written::Nothing => number(h, 0),
-        Written::Command(n) => all(number(h, u64::from(n)), command),
+        Err(n) => number(h, 256 + u64::from(n.code())),
+        Ok(None) => number(h, 0),
+        Ok(Some(n)) => all(number(h, u64::from(n)), command),
     }
 }
