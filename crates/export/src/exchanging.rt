@@ -6,6 +6,9 @@ ghost use Rattle.state_spans.specs.Coming.{from_answer, from_block};
 ghost use Rattle.state_spans.specs.Going.{lent, to_answer, to_lent};
 ghost use Rattle.export_answers.specs.Coded.{coded, value};
 
+use state_spans::{Spans, SpansMut};
+
+// Stays: the C interface is sporedrift_from_spans and sporedrift_to_spans, to which thirteen slices cross; from here on they are one struct.
 #[unsafe(no_mangle)]
 pub extern "C" fn sporedrift_from_spans(
     block: &mut [u8],
@@ -27,8 +30,7 @@ pub extern "C" fn sporedrift_from_spans(
     ensures value { result ≡ from_answer block.old (state_lent fields.now present palettes.now attribute_map.now system_palettes.now attribute_files.now packet.now packets.now capture.now frozen_capture.now preset.now border_tiles.now border_map.now border_palettes.now) }
     ensures block_after { block.new ≡ from_block block.old (state_lent fields.now present palettes.now attribute_map.now system_palettes.now attribute_files.now packet.now packets.now capture.now frozen_capture.now preset.now border_tiles.now border_map.now border_palettes.now) }
 {
-    state::from_state(
-        block,
+    let spans = Spans::lent(
         fields,
         present,
         palettes,
@@ -43,8 +45,8 @@ pub extern "C" fn sporedrift_from_spans(
         border_tiles,
         border_map,
         border_palettes,
-    )
-    .0
+    );
+    export_answers::coded(state::from_state(block, &spans))
 }
 
 #[unsafe(no_mangle)]
@@ -67,8 +69,7 @@ pub extern "C" fn sporedrift_to_spans(
     ensures value { result ≡ coded value (to_answer block.now (lent fields.old palettes.old attribute_map.old system_palettes.old attribute_files.old packet.old packets.old capture.old frozen_capture.old preset.old border_tiles.old border_map.old border_palettes.old)) }
     ensures border_palettes_after { lent fields.new palettes.new attribute_map.new system_palettes.new attribute_files.new packet.new packets.new capture.new frozen_capture.new preset.new border_tiles.new border_map.new border_palettes.new ≡ to_lent block.now (lent fields.old palettes.old attribute_map.old system_palettes.old attribute_files.old packet.old packets.old capture.old frozen_capture.old preset.old border_tiles.old border_map.old border_palettes.old) }
 {
-    export_answers::of_number(state::to_state(
-        block,
+    let mut room = SpansMut {
         fields,
         palettes,
         attribute_map,
@@ -82,5 +83,6 @@ pub extern "C" fn sporedrift_to_spans(
         border_tiles,
         border_map,
         border_palettes,
-    ))
+    };
+    export_answers::coded(state::to_state(block, &mut room))
 }
