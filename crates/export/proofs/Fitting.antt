@@ -12,7 +12,7 @@ use lib.Dec.{eqb, ltb, leb, lit<, lit≤}
 use lib.ListN.{length, get_or, take, length-take}
 use Rattle.bits.proofs.Tests.{either}
 use Rattle.receiver.proofs.Sound.{count-few}
-use Rattle.pulses.specs.Answer.{Answer, given}
+use Rattle.pulses.specs.Answer.{Answer}
 use Rattle.pulses.specs.Bytes.{packets_in, malformed}
 use Rattle.pulses.specs.Encode.{encoding, short}
 use Rattle.parts.specs.Parts.{block_bytes, store_bytes, capture_bytes}
