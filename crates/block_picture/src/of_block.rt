@@ -1,4 +1,5 @@
 // The parts of a valid block that the picture is drawn from, lent as they stand (specs/Drawn, `parts_of`).
+// Stays: a function for each part. They differ in a range and a length alone, but each contract names its own field, which a const would hide.
 ghost use Rattle.std.specs.Prelude.{◌≡◌, length};
 ghost use Rattle.parts.specs.Parts.{preset_bytes, palettes_bytes, map_bytes, capture_bytes, tiles_bytes, border_map_bytes, border_palettes_bytes};
 ghost use Rattle.layout.specs.Block.{load};

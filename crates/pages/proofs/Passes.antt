@@ -2,16 +2,18 @@
 -- Assumes nothing.
 use mathlib.Core.Path.{◌≡◌, refl, sym, ap, ap₂, subst, ◌∙◌}
 use mathlib.Core.Bool.{Bool, true, false}
-use mathlib.Core.List.{List}
-use Prim.Native.Nat.{ℕ, ◌+◌, ◌-◌, ◌*◌, ◌/◌, ◌%◌, ◌<◌, ◌≤◌}
+use mathlib.Core.List.{List, [], ◌∷◌, ◌++◌}
+use Prim.Native.Nat.{ℕ, zero, suc, ◌+◌, ◌-◌, ◌*◌, ◌/◌, ◌%◌, ◌<◌, ◌≤◌}
 use native.Mathlib.Omega.{arith}
 use borrow.Author.Tests.{ltb-true, ltb-false}
 use lib.Dec.{ltb}
-use lib.ListN.{length, get_or, set}
+use lib.ListN.{length, get_or, set, replicate, length-replicate, take-append-drop}
 use Rattle.parts.specs.Parts.{capture_bytes}
 use Rattle.bits.specs.Pair.{packed}
 use Rattle.bits.specs.Plane.{shade_by, four_of}
-use Rattle.bits.specs.Paint.{Painted}
+use Rattle.bits.specs.Paint.{paint, Painted}
+use Rattle.bits.specs.Over.{over}
+use Rattle.bits.proofs.Overs.{set-over}
 use Rattle.bits.proofs.Tests.{either}
 use Rattle.bits.proofs.Zeros.{past_end}
 use Rattle.bits.proofs.Pairs.{packed-same}
@@ -21,6 +23,29 @@ use Rattle.bits.proofs.Painting.{painted_turn, painted-count, painted-run, paint
 use Rattle.transfer.specs.Page.{page_bytes}
 use Rattle.pages.specs.Pixels.{tile_number, page_tiles, page_byte, page_shade, screen_of}
 use Rattle.pages.specs.Passes.{reached, fours_in, four_byte, row_byte, laid_byte, rows_of, packed_byte}
+
+-- ---- nothing, beside and beneath the tiles
+
+abbrev zeros : ℕ → List ℕ
+zeros n = replicate n 0
+
+abbrev none : List ℕ
+none = 0 ∷ []
+
+zeros_more : (n : ℕ) → zeros n ++ none ≡ zeros (suc n)
+zeros_more zero = refl
+zeros_more (suc n) = ap (λ (l : List ℕ). 0 ∷ l) (zeros_more n)
+
+pub blanked : (l : List ℕ) (at n : ℕ) → at + n ≤ length l → over at n (replicate n 0) l ≡ paint l at n (λ i. 0)
+unfolding paint
+blanked l at zero h = take-append-drop at l
+blanked l at (suc n) h =
+    let less : at + n < length l = omega arith in
+    let s : n + 1 ≡ suc n = omega arith in
+    sym
+    (ap (λ (m : List ℕ). set m (at + n) 0) (sym (blanked l at n (omega arith)))
+    ∙ set-over at n (replicate n 0) l 0 less (length-replicate n 0)
+    ∙ (λ t. over at (s t) (zeros_more n t) l))
 
 -- ---- the first pass
 

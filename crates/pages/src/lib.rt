@@ -106,9 +106,7 @@ fn blank(screen: &mut [u8], at: usize, n: usize)
     requires { at + n ≤ length screen.old }
     ensures { Painted screen.new screen.old at n (λ i. 0) }
 {
-    for i in 0..n {
-        screen[at + i] = 0;
-    }
+    bits::clear(&mut screen[at..at + n]);
 }
 
 // Where two bytes are the planes of eight pixels, those pixels packed. What a page doesn't reach is 0 either way.

@@ -10,7 +10,9 @@ ghost use Rattle.screen.specs.Colours.{palette_colour, backdrop_of, shaded_of, m
 
 use colour::Rgb555;
 
-// The live capture or the frozen one, whole and not copied. The part is empty if one of them doesn't have 5,760 bytes, and only then.
+// The live capture or the frozen one, whole and not copied.
+// Stays: it refuses by an empty part, and takes the mode as any byte, as RULES 2.7 and the call for C have it.
+// The part is empty if one of them doesn't have 5,760 bytes, and only then.
 #[tactic(auto, unfolding(crate::specs::Displayed::displayed))]
 pub fn displayed_screen<'a>(live: &'a [u8], frozen: &'a [u8], mode: u8) -> &'a [u8]
     ensures { result.now ≡ displayed live.now frozen.now mode }

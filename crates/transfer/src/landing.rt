@@ -1,4 +1,5 @@
 // The landings. Each is lent the one part of the block that it writes, and the screen that lands. RULES 5.4.
+// Stays: a landing for each part, though two write the same bytes: each lands on its own part, a rule of the project, and its contract names that part.
 ghost use Rattle.std.specs.Prelude.{◌≡◌, length};
 ghost use Rattle.parts.specs.Parts.{system_bytes, files_bytes, capture_bytes, half_bytes, border_bytes};
 ghost use Rattle.transfer.specs.Landing.{palettes_landed, files_landed, tiles_landed, map_landed};

@@ -24,6 +24,7 @@ pub struct UnknownKind(pub u8);
 
 impl Transfer {
     // Byte 11 of the block.
+    // Stays: its callers ask a kind for its number by this name, and `u8::from(transfer)` would not say which number.
     #[tactic(auto, unfolding(crate::specs::Pending::number_of))]
     pub fn number(self) -> u8
         ensures { result ≡ number_of self }
