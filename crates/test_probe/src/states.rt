@@ -1,5 +1,6 @@
 // States of the emulator into a block and out of one. (A module can't have the name of a crate that is used.)
-use view::Number;
+use refusal::Refusal;
+use state_spans::{Spans, SpansMut};
 
 // The refusal as it is, or 0.
 #[unsafe(no_mangle)]
@@ -20,8 +21,7 @@ pub extern "C" fn probe_from_state(
     border_map: &[u8],
     border_palettes: &[u8],
 ) -> u32 {
-    state::from_state(
-        block,
+    let spans = Spans::lent(
         fields,
         present,
         palettes,
@@ -36,8 +36,11 @@ pub extern "C" fn probe_from_state(
         border_tiles,
         border_map,
         border_palettes,
-    )
-    .0
+    );
+    match state::from_state(block, &spans) {
+        Ok(()) => 0,
+        Err(r) => r.code(),
+    }
 }
 
 // Which spans are there, a bit each; a refusal as 0x80000000 and its number, with 256 times its offset where it has one.
@@ -58,8 +61,7 @@ pub extern "C" fn probe_to_state(
     border_map: &mut [u8],
     border_palettes: &mut [u8],
 ) -> u32 {
-    number(state::to_state(
-        block,
+    let mut room = SpansMut {
         fields,
         palettes,
         attribute_map,
@@ -73,12 +75,13 @@ pub extern "C" fn probe_to_state(
         border_tiles,
         border_map,
         border_palettes,
-    ))
+    };
+    number(state::to_state(block, &mut room))
 }
 
-pub fn number(told: Number) -> u32 {
+pub fn number(told: Result<usize, Refusal>) -> u32 {
     match told {
-        Number::Refused(r) => r.0 | 0x80000000,
-        Number::Is(n) => (n % 65536) as u32,
+        Ok(n) => (n % 65536) as u32,
+        Err(r) => r.code() | 0x80000000,
     }
 }
