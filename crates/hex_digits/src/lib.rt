@@ -48,7 +48,9 @@ pub fn spells(text: &[u8]) -> bool
     all < 16
 }
 
-// The bytes that a text spells, at the front of `bytes`.
+// The bytes that a text spells, at the front of `bytes`. Not inlined: where a caller lends both from one struct, the loop would else be no
+// vector code.
+#[inline(never)]
 pub fn decode(text: &[u8], bytes: &mut [u8])
     requires text_value { spells text.now ≡ true }
     requires text_len_bound { length text.now ≤ 2 * length bytes.old }

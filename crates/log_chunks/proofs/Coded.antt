@@ -18,7 +18,7 @@ use Rattle.log_line.specs.Lines.{meaning_marked}
 use Rattle.log_line.specs.Split.{held_as}
 use Rattle.log_line.specs.Calls.{writes_of, one_screen, line_told, meaning_told, filled, line_answer, line_bytes}
 use Rattle.log_line.proofs.Splitting.{held-long, held-means}
-use borrow.Author.Tests.{le-leb, lt-leb, leb-true, leb-false, lt-ltb, le-ltb}
+use borrow.Author.Tests.{le-leb, lt-leb, leb-true, leb-false}
 use lib.Dec.{leb, ltb}
 use mathlib.Core.Bool.{Bool, true, false, not, ◌&&◌, true≢false}
 use Rattle.bits.proofs.Tests.{and_left, and_right}
@@ -40,7 +40,7 @@ use Rattle.refusal.specs.declared.Refusal.{Refusal}
 use Rattle.refusal.specs.Codes.{code_of}
 use Rattle.std.specs.Prelude.{Result, Ok, Err}
 use Rattle.log_chunks.specs.declared.Desk.{Desk}
-use Rattle.log_chunks.specs.Steps.{desk, pending, told_of, ran_on, played_to, answer_of, next_line, ended_as, ended, told_by, ToldFits, goes_on, step_room, left, last_lf}
+use Rattle.log_chunks.specs.Steps.{desk, pending, told_of, ran_on, played_to, answer_of, next_line, ended_as, ended, told_by, ToldFits, goes_on, step_room, left}
 use Rattle.log_reading.specs.declared.Reading.{Reading}
 use Rattle.log_chunks.specs.declared.Step.{Step}
 use Rattle.log_chunks.specs.declared.Told.{Told}

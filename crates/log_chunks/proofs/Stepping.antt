@@ -1,7 +1,7 @@
 -- What `take_step` leaves is the step, by its cases: writes are played, a line has ended, or the chunk is used up.
 use mathlib.Core.Path.{◌≡◌, refl, ap, ap₂, ◌∙◌}
 use mathlib.Core.Bool.{Bool, true, false}
-use mathlib.Core.List.{List, []}
+use mathlib.Core.List.{List}
 use mathlib.Core.Option.{Option, none, some}
 use Prim.Native.Nat.{ℕ, zero, suc, ◌+◌, ◌/◌, ◌≤◌, ◌<◌}
 use native.Mathlib.Omega.{arith}
@@ -24,7 +24,7 @@ use Rattle.block_port.specs.Bytes.{packets_told}
 use Rattle.block_writes.specs.Play.{played}
 use Rattle.log_chunks.specs.Texts.{shown}
 use Rattle.log_chunks.specs.declared.Desk.{Desk}
-use Rattle.log_chunks.specs.Steps.{desk, Stepped, answer_of, told_of, ran_on, played_to, pending, ended_as, ended, took, took_on, stepped, holding, with_line, told_by, ToldFits, events_on, is_refused, filled_by, Said}
+use Rattle.log_chunks.specs.Steps.{Stepped, answer_of, told_of, ran_on, played_to, pending, ended_as, ended, took, took_on, stepped, holding, with_line, told_by, ToldFits, events_on, is_refused, filled_by, Said}
 use Rattle.block_writes.proofs.Plays.{kept-played}
 use Rattle.log_reading.specs.declared.Reading.{Reading}
 use Rattle.log_chunks.specs.declared.Step.{Step}

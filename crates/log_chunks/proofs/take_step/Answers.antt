@@ -1,7 +1,6 @@
 -- By the three cases.
-use mathlib.Core.Path.{refl, ap, ◌∙◌, subst⁻¹}
+use mathlib.Core.Path.{refl, subst⁻¹}
 use Prim.Native.Nat.{◌≤◌}
-use lib.ListN.{length}
 use Rattle.log_line.specs.Line.{line_digits}
 use Rattle.log_line.specs.Split.{held_size}
 use Rattle.log_line.specs.declared.lines.Taken.{Taken}

@@ -1,5 +1,5 @@
 -- What was read left a valid block, and what is printed behind it is the picture or the refused line.
-use mathlib.Core.Path.{◌≡◌, ◌∙◌}
+use mathlib.Core.Path.{◌∙◌}
 use Rattle.std.specs.Result.{is_ok}
 use Rattle.log_plate.proofs.Closing.{closed_printed}
 use Rattle.log_plate.proofs.plate.Goals as goal

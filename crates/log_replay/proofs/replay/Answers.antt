@@ -1,5 +1,5 @@
 -- What was read left a valid block, and what is printed behind it is the closing line.
-use mathlib.Core.Path.{◌≡◌, sym, ◌∙◌}
+use mathlib.Core.Path.{sym, ◌∙◌}
 use Rattle.std.specs.Result.{is_ok}
 use Rattle.log_replay.proofs.Closing.{failed_printed, told_printed}
 use Rattle.log_replay.proofs.replay.Goals as goal
