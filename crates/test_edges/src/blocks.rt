@@ -4,12 +4,12 @@ ghost use Rattle.std.specs.Prelude.{◌≡◌, ◌<◌, length};
 ghost use Rattle.parts.specs.Parts.{block_bytes};
 
 use std::io::Stdout;
-use test_text::refused;
+use test_text::checked;
 
 pub fn examples(stdout: Stdout, block: &mut [u8])
     requires { length block.old ≡ block_bytes }
 {
-    unit::post_boot(block);
+    let _ = unit::post_boot(block);
     header(stdout, block);
     idle(stdout, block);
     parts_behind(stdout, block);
@@ -90,6 +90,6 @@ fn damaged(stdout: Stdout, block: &mut [u8], at: usize, value: u8)
 {
     let before = block[at];
     set(block, at, value);
-    refused(stdout, unit::check(block));
+    checked(stdout, unit::check(block));
     set(block, at, before);
 }

@@ -1,13 +1,14 @@
 // States of the emulator, by both public calls (RULES 10.2 and 11): the state that the block of `new` goes out as, changed in a thing or two.
 // (A module can't have the name of a crate that is used.) A state is one row of bytes here: `spans` has the places.
 use crate::spans;
-use bits::{all_zero, put};
+use bits::all_zero;
+use refusal::Refusal;
+use state_spans::{Spans, SpansMut};
 use std::io::Stdout;
-use test_text::{line, number, say};
-use view::Number;
+use test_text::{checked, line, say};
 
 pub fn examples(stdout: Stdout, block: &mut [u8]) {
-    unit::new(block);
+    let _ = unit::new(block);
     there_and_back(stdout, block);
     frozen(stdout, block);
     border(stdout, block);
@@ -85,137 +86,68 @@ fn refused(stdout: Stdout, block: &[u8]) {
 
 // No packet is in, so the packets have no bytes.
 fn comes_in(stdout: Stdout, block: &mut [u8], row: &[u8], present: u16) {
-    test_text::refused(
-        stdout,
-        state::from_state(
-            block,
-            part(row, 0, spans::PALETTES),
-            present,
-            part(row, spans::PALETTES, spans::MAP),
-            part(row, spans::MAP, spans::SYSTEM),
-            part(row, spans::SYSTEM, spans::FILES),
-            part(row, spans::FILES, spans::PACKET),
-            part(row, spans::PACKET, spans::PACKETS),
-            part(row, spans::PACKETS, spans::PACKETS),
-            part(row, spans::CAPTURE, spans::FROZEN),
-            part(row, spans::FROZEN, spans::PRESET),
-            part(row, spans::PRESET, spans::TILES),
-            part(row, spans::TILES, spans::BORDER_MAP),
-            part(row, spans::BORDER_MAP, spans::BORDER_PALETTES),
-            part(row, spans::BORDER_PALETTES, spans::ROW),
-        ),
+    let spans = Spans::lent(
+        part(row, 0, spans::PALETTES),
+        present,
+        part(row, spans::PALETTES, spans::MAP),
+        part(row, spans::MAP, spans::SYSTEM),
+        part(row, spans::SYSTEM, spans::FILES),
+        part(row, spans::FILES, spans::PACKET),
+        part(row, spans::PACKET, spans::PACKETS),
+        part(row, spans::PACKETS, spans::PACKETS),
+        part(row, spans::CAPTURE, spans::FROZEN),
+        part(row, spans::FROZEN, spans::PRESET),
+        part(row, spans::PRESET, spans::TILES),
+        part(row, spans::TILES, spans::BORDER_MAP),
+        part(row, spans::BORDER_MAP, spans::BORDER_PALETTES),
+        part(row, spans::BORDER_PALETTES, spans::ROW),
     );
+    checked(stdout, state::from_state(block, &spans));
 }
 
 pub fn part(bytes: &[u8], from: usize, to: usize) -> &[u8] {
-    if to > bytes.len() {
-        return bytes;
-    }
-    if from > to {
-        return bytes;
-    }
-    &bytes[from..to]
+    bytes.get(from..to).unwrap_or(bytes)
 }
 
 // A span that is missing is zeros in the row.
 fn goes_out(stdout: Stdout, block: &[u8]) -> [u8; spans::ROW] {
-    let mut fields = [0u8; spans::PALETTES];
-    let mut palettes = [0u8; parts::PALETTES_BYTES];
-    let mut map = [0u8; 4 * parts::MAP_BYTES];
-    let mut system = [0u8; parts::SYSTEM_BYTES];
-    let mut files = [0u8; 4 * parts::FILES_BYTES];
-    let mut packet = [0u8; parts::PACKET_BYTES];
-    let mut packets = [0u8; parts::STORE_BYTES];
-    let mut capture = [0u8; 4 * parts::CAPTURE_BYTES];
-    let mut frozen = [0u8; 4 * parts::CAPTURE_BYTES];
-    let mut preset = [0u8; parts::PRESET_BYTES];
-    let mut tiles = [0u8; parts::TILES_BYTES];
-    let mut border_map = [0u8; parts::BORDER_MAP_BYTES];
-    let mut border_palettes = [0u8; parts::BORDER_PALETTES_BYTES];
-    tell(
-        stdout,
-        state::to_state(
-            block,
-            &mut fields,
-            &mut palettes,
-            &mut map,
-            &mut system,
-            &mut files,
-            &mut packet,
-            &mut packets,
-            &mut capture,
-            &mut frozen,
-            &mut preset,
-            &mut tiles,
-            &mut border_map,
-            &mut border_palettes,
-        ),
-    );
-    in_a_row(
-        &fields,
-        &palettes,
-        &map,
-        &system,
-        &files,
-        &packet,
-        &packets,
-        &capture,
-        &frozen,
-        &preset,
-        &tiles,
-        &border_map,
-        &border_palettes,
-    )
-}
-
-// All thirteen, one behind the other.
-fn in_a_row(
-    fields: &[u8; spans::PALETTES],
-    palettes: &[u8; parts::PALETTES_BYTES],
-    map: &[u8; 4 * parts::MAP_BYTES],
-    system: &[u8; parts::SYSTEM_BYTES],
-    files: &[u8; 4 * parts::FILES_BYTES],
-    packet: &[u8; parts::PACKET_BYTES],
-    packets: &[u8; parts::STORE_BYTES],
-    capture: &[u8; 4 * parts::CAPTURE_BYTES],
-    frozen: &[u8; 4 * parts::CAPTURE_BYTES],
-    preset: &[u8; parts::PRESET_BYTES],
-    tiles: &[u8; parts::TILES_BYTES],
-    border_map: &[u8; parts::BORDER_MAP_BYTES],
-    border_palettes: &[u8; parts::BORDER_PALETTES_BYTES],
-) -> [u8; spans::ROW] {
     let mut row = [0u8; spans::ROW];
-    lay(&mut row, 0, fields);
-    lay(&mut row, spans::PALETTES, palettes);
-    lay(&mut row, spans::MAP, map);
-    lay(&mut row, spans::SYSTEM, system);
-    lay(&mut row, spans::FILES, files);
-    lay(&mut row, spans::PACKET, packet);
-    lay(&mut row, spans::PACKETS, packets);
-    lay(&mut row, spans::CAPTURE, capture);
-    lay(&mut row, spans::FROZEN, frozen);
-    lay(&mut row, spans::PRESET, preset);
-    lay(&mut row, spans::TILES, tiles);
-    lay(&mut row, spans::BORDER_MAP, border_map);
-    lay(&mut row, spans::BORDER_PALETTES, border_palettes);
+    let (fields, rest) = row.split_at_mut(spans::PALETTES);
+    let (palettes, rest) = rest.split_at_mut(parts::PALETTES_BYTES);
+    let (attribute_map, rest) = rest.split_at_mut(4 * parts::MAP_BYTES);
+    let (system_palettes, rest) = rest.split_at_mut(parts::SYSTEM_BYTES);
+    let (attribute_files, rest) = rest.split_at_mut(4 * parts::FILES_BYTES);
+    let (packet, rest) = rest.split_at_mut(parts::PACKET_BYTES);
+    let (packets, rest) = rest.split_at_mut(parts::STORE_BYTES);
+    let (capture, rest) = rest.split_at_mut(4 * parts::CAPTURE_BYTES);
+    let (frozen_capture, rest) = rest.split_at_mut(4 * parts::CAPTURE_BYTES);
+    let (preset, rest) = rest.split_at_mut(parts::PRESET_BYTES);
+    let (border_tiles, rest) = rest.split_at_mut(parts::TILES_BYTES);
+    let (border_map, border_palettes) = rest.split_at_mut(parts::BORDER_MAP_BYTES);
+    let mut room = SpansMut {
+        fields,
+        palettes,
+        attribute_map,
+        system_palettes,
+        attribute_files,
+        packet,
+        packets,
+        capture,
+        frozen_capture,
+        preset,
+        border_tiles,
+        border_map,
+        border_palettes,
+    };
+    tell(stdout, state::to_state(block, &mut room));
     row
 }
 
-fn lay(row: &mut [u8], at: usize, span: &[u8]) {
-    if at <= row.len() {
-        if span.len() <= row.len() - at {
-            put(row, at, span);
-        }
-    }
-}
-
-fn tell(stdout: Stdout, told: Number) {
+fn tell(stdout: Stdout, told: Result<usize, Refusal>) {
     match told {
-        Number::Refused(r) => test_text::refused(stdout, r),
-        Number::Is(present) => {
-            say(stdout, b"out, presence ");
-            number(stdout, present as u64);
-            say(stdout, b"\n");
+        Err(r) => test_text::refused(stdout, r),
+        Ok(present) => {
+            let _ = println!(stdout; "out, presence {present}");
         }
     }
 }

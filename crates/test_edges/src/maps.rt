@@ -39,10 +39,8 @@ fn show(stdout: Stdout, d: &[u8], block: &mut [u8])
 fn rows(stdout: Stdout, map: &[u8])
     requires { length map.now ≡ map_bytes }
 {
-    let mut y: usize = 0;
-    while y < 18 {
+    for y in 0..18 {
         row(stdout, &map[5 * y..5 * y + 5]);
-        y += 1;
     }
 }
 
@@ -51,8 +49,8 @@ pub fn row(stdout: Stdout, packed: &[u8])
     requires { length packed.now ≡ 5 }
 {
     let mut line = [b'\n'; 21];
-    for x in 0..20 {
-        line[x] = b'0' | bits::pair(packed[x / 4], (x % 4) as u8);
+    for (x, digit) in line[..20].iter_mut().enumerate() {
+        *digit = b'0' | bits::pair(packed[x / 4], (x % 4) as u8);
     }
     say(stdout, &line);
 }

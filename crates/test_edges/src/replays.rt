@@ -33,24 +33,23 @@ pub fn command(stdout: Stdout, d: &[u8], block: &mut [u8])
     requires { length block.old ≡ block_bytes }
 {
     let mut pulses = [0u8; 260];
-    pulses::encode(d, &mut pulses);
+    let _ = pulses::encode(d, &mut pulses);
     replay(stdout, &pulses, block);
 }
 
 fn replay(stdout: Stdout, writes: &[u8], block: &mut [u8])
     requires { length block.old ≡ block_bytes }
 {
-    unit::post_boot(block);
+    let _ = unit::post_boot(block);
     let mut command = [0u8; parts::STORE_BYTES];
     send(stdout, writes, block, &mut command);
     line(stdout, &block[0..13]);
 }
 
 fn send(stdout: Stdout, writes: &[u8], block: &mut [u8], command: &mut [u8]) {
-    let mut i: usize = 0;
-    while i < writes.len() {
-        let told = unit::write_joypad(block, writes[i], command);
-        completed(stdout, told, command);
-        i += 1;
+    for write in writes {
+        if let Ok(packets) = unit::write_joypad(block, *write, command) {
+            completed(stdout, packets, command);
+        }
     }
 }

@@ -5,17 +5,38 @@ ghost use Rattle.parts.specs.Parts.{block_bytes};
 
 use crate::emulator::part;
 use crate::maps::row;
-use bits::{high_byte, low_byte, put, wide};
-use pulses::Conformance;
+use bits::{high_byte, low_byte, put};
+use refusal::Refusal;
 use std::io::Stdout;
+use test_text::say;
 use test_text::sent::played;
-use test_text::{number, say};
 
-const ATTR_BLK: u8 = 0x04;
+// A command that announces how many items follow.
+#[derive(Clone, Copy, Debug, PartialEq, Eq)]
+enum Announced {
+    Sets,
+    Lines,
+    Cells,
+}
 
-const ATTR_LIN: u8 = 0x05;
+impl Announced {
+    // The code of ATTR_BLK, ATTR_LIN or ATTR_CHR.
+    fn code(self) -> u8 {
+        match self {
+            Announced::Sets => 0x04,
+            Announced::Lines => 0x05,
+            Announced::Cells => 0x07,
+        }
+    }
 
-const ATTR_CHR: u8 = 0x07;
+    fn name(self) -> &'static str {
+        match self {
+            Announced::Sets => "sets",
+            Announced::Lines => "lines",
+            Announced::Cells => "cells",
+        }
+    }
+}
 
 pub fn examples(stdout: Stdout, block: &mut [u8])
     requires { length block.old ≡ block_bytes }
@@ -31,61 +52,54 @@ pub fn examples(stdout: Stdout, block: &mut [u8])
 
 // Two bytes, and six a set: thirteen fill five packets, and eighteen take seven. None announced is too few.
 fn sets(stdout: Stdout) {
-    judge(stdout, ATTR_BLK, 1, 0);
-    judge(stdout, ATTR_BLK, 1, 2);
-    judge(stdout, ATTR_BLK, 1, 3);
-    judge(stdout, ATTR_BLK, 1, 18);
-    judge(stdout, ATTR_BLK, 5, 13);
-    judge(stdout, ATTR_BLK, 5, 14);
-    judge(stdout, ATTR_BLK, 7, 18);
-    judge(stdout, ATTR_BLK, 7, 19);
+    judge(stdout, Announced::Sets, 1, 0);
+    judge(stdout, Announced::Sets, 1, 2);
+    judge(stdout, Announced::Sets, 1, 3);
+    judge(stdout, Announced::Sets, 1, 18);
+    judge(stdout, Announced::Sets, 5, 13);
+    judge(stdout, Announced::Sets, 5, 14);
+    judge(stdout, Announced::Sets, 7, 18);
+    judge(stdout, Announced::Sets, 7, 19);
 }
 
 // Two bytes, and one a line.
 fn lines(stdout: Stdout) {
-    judge(stdout, ATTR_LIN, 1, 14);
-    judge(stdout, ATTR_LIN, 1, 15);
-    judge(stdout, ATTR_LIN, 7, 110);
-    judge(stdout, ATTR_LIN, 7, 111);
+    judge(stdout, Announced::Lines, 1, 14);
+    judge(stdout, Announced::Lines, 1, 15);
+    judge(stdout, Announced::Lines, 7, 110);
+    judge(stdout, Announced::Lines, 7, 111);
 }
 
 // Six bytes, and one for every four cells, also for those left over. Seven packets are too many, whatever they hold.
 fn cells(stdout: Stdout) {
-    judge(stdout, ATTR_CHR, 1, 40);
-    judge(stdout, ATTR_CHR, 1, 41);
-    judge(stdout, ATTR_CHR, 6, 360);
-    judge(stdout, ATTR_CHR, 6, 361);
-    judge(stdout, ATTR_CHR, 7, 360);
+    judge(stdout, Announced::Cells, 1, 40);
+    judge(stdout, Announced::Cells, 1, 41);
+    judge(stdout, Announced::Cells, 6, 360);
+    judge(stdout, Announced::Cells, 6, 361);
+    judge(stdout, Announced::Cells, 7, 360);
 }
 
-// The verdict on a command of this code that announces so many items in so many packets.
-fn judge(stdout: Stdout, code: u8, packets: u8, count: u16) {
-    say(stdout, b"packets ");
-    number(stdout, u64::from(packets));
-    name(stdout, code);
-    number(stdout, u64::from(count));
-    say(stdout, b": ");
-    let d = announcing(code, packets, count);
-    tell(stdout, pulses::verdict(part(&d, 0, 16 * wide(packets))));
-}
-
-fn name(stdout: Stdout, code: u8) {
-    match code {
-        ATTR_BLK => say(stdout, b", sets "),
-        ATTR_LIN => say(stdout, b", lines "),
-        _ => say(stdout, b", cells "),
-    }
+// The verdict on a command that announces so many items in so many packets.
+fn judge(stdout: Stdout, items: Announced, packets: u8, count: u16) {
+    let name = items.name();
+    let _ = print!(stdout; "packets {packets}, {name} {count}: ");
+    let d = announcing(items, packets, count);
+    tell(
+        stdout,
+        pulses::verdict(part(&d, 0, 16 * usize::from(packets))),
+    );
 }
 
 // A command of zeros but for its first byte and the number that it announces, in an array of seven packets.
-fn announcing(code: u8, packets: u8, count: u16) -> [u8; parts::STORE_BYTES] {
+fn announcing(items: Announced, packets: u8, count: u16) -> [u8; parts::STORE_BYTES] {
     let mut d = [0u8; parts::STORE_BYTES];
-    d[0] = code << 3 | packets;
-    if code == ATTR_CHR {
-        d[3] = low_byte(count);
-        d[4] = high_byte(count);
-    } else {
-        d[1] = low_byte(count);
+    d[0] = items.code() << 3 | packets;
+    match items {
+        Announced::Sets | Announced::Lines => d[1] = low_byte(count),
+        Announced::Cells => {
+            d[3] = low_byte(count);
+            d[4] = high_byte(count);
+        }
     }
     d
 }
@@ -94,13 +108,13 @@ fn announcing(code: u8, packets: u8, count: u16) -> [u8; parts::STORE_BYTES] {
 fn columns(stdout: Stdout, packets: u8, count: u16, block: &mut [u8])
     requires { length block.old ≡ block_bytes }
 {
-    let mut d = announcing(ATTR_LIN, packets, count);
+    let mut d = announcing(Announced::Lines, packets, count);
     put(
         &mut d,
         2,
         &[32, 33, 34, 35, 36, 37, 38, 39, 40, 41, 42, 43, 44, 45, 78],
     );
-    carried(stdout, part(&d, 0, 16 * wide(packets)), block);
+    carried(stdout, part(&d, 0, 16 * usize::from(packets)), block);
 }
 
 fn carried(stdout: Stdout, d: &[u8], block: &mut [u8])
@@ -111,10 +125,10 @@ fn carried(stdout: Stdout, d: &[u8], block: &mut [u8])
     row(stdout, &block[parts::MAP..parts::MAP + 5]);
 }
 
-fn tell(stdout: Stdout, told: Conformance) {
+fn tell(stdout: Stdout, told: Result<bool, Refusal>) {
     match told {
-        Conformance::Malformed => say(stdout, b"malformed\n"),
-        Conformance::Conforms => say(stdout, b"conforms\n"),
-        Conformance::Differs => say(stdout, b"differs\n"),
+        Err(_) => say(stdout, b"malformed\n"),
+        Ok(true) => say(stdout, b"conforms\n"),
+        Ok(false) => say(stdout, b"differs\n"),
     }
 }
