@@ -1,15 +1,14 @@
 -- The tests on numbers that V3 is made of are the code's: a number is below a power of two if nothing is left of it after the shift, and
 -- bytes make the number 0 if all are zero.
 use mathlib.Core.Path.{◌≡◌, refl, sym, ap, ◌∙◌}
-use mathlib.Core.Bool.{Bool, true, false, ◌&&◌}
+use mathlib.Core.Bool.{Bool, true, ◌&&◌}
 use mathlib.Core.List.{List, [], ◌∷◌}
 use Prim.Native.Nat.{ℕ, zero, suc, ◌+◌, ◌-◌, ◌*◌, ◌/◌, ◌^◌, ◌<◌, ◌≤◌, zero-le, suc-le-suc}
-use native.Mathlib.Nat.{div-lt_iff_lt-mul}
 use native.Mathlib.Omega.{arith}
-use borrow.Author.Tests.{ne_eqb, lt-ltb, le-ltb}
+use borrow.Author.Tests.{ne_eqb, lt-ltb}
 use lib.Dec.{eqb, ltb}
 use lib.ListN.{length, get_or}
-use lib.Pow.{are_bytes, pow_pos, pow-add, pow_mono, high}
+use lib.Pow.{are_bytes, pow-add}
 use Rattle.bits.specs.Over.{part}
 use Rattle.bits.specs.Zero.{zeros}
 use Rattle.bits.proofs.Masks.{shifted_out}
@@ -38,19 +37,11 @@ zero-value (x ∷ l) = ap (λ (b : Bool). eqb x 0 && b) (zero-value l) ∙ both 
 
 -- ---- a packet in two words, against 2 ^ n
 
-pub clear_whole : (lo hi n : ℕ) → lo < 18446744073709551616 → hi < 18446744073709551616 → n ≡ 128 → true ≡ ltb (words lo hi) (2 ^ n)
-clear_whole lo hi n h k e =
-    let q : words lo hi / 2 ^ 64 < 2 ^ 64 = rw (high hi 64 {lo = lo} h) k in
-    rw e (sym (lt-ltb (words lo hi) (2 ^ 128) ((div-lt_iff_lt-mul (pow_pos 64)).0 q)))
-
 pub clear-high : (lo hi n : ℕ) → lo < 18446744073709551616 → 64 ≤ n → eqb (hi / 2 ^ (n - 64)) 0 ≡ ltb (words lo hi) (2 ^ n)
 clear-high lo hi n h k =
     let s : (n - 64) + 64 ≡ n = omega arith in
     let p : 2 ^ n ≡ 2 ^ (n - 64) * 18446744073709551616 = ap (λ (j : ℕ). 2 ^ j) (sym s) ∙ pow-add 2 (n - 64) 64 in
     shifted_out hi (n - 64) ∙ same-ltb hi (2 ^ (n - 64)) (words lo hi) (2 ^ n) (λ g. omega arith) (λ g. omega arith)
-
-pub clear-not : (lo hi n : ℕ) → n < 64 → (hi ≡ 0 → ⊥) → false ≡ ltb (words lo hi) (2 ^ n)
-clear-not lo hi n h k = let top : 2 ^ n ≤ 9223372036854775808 = pow_mono {i = n} {j = 63} (omega arith) in sym (le-ltb (words lo hi) (2 ^ n) (omega arith))
 
 pub clear-low : (lo hi n : ℕ) → hi ≡ 0 → eqb (lo / 2 ^ n) 0 ≡ ltb (words lo hi) (2 ^ n)
 clear-low lo hi n e = let w : lo ≡ words lo hi = omega arith in shifted_out lo n ∙ ap (λ (x : ℕ). ltb x (2 ^ n)) w

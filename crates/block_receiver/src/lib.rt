@@ -10,7 +10,7 @@ ghost use Rattle.receiver.specs.Receive.{words};
 ghost use Rattle.receiver.specs.Valid.{later, v3_at};
 ghost use Rattle.receiver.specs.declared.Stage.TheVariants.{Idle, Receiving, Awaiting};
 
-use bits::{all_zero, wide};
+use bits::all_zero;
 use block_packet::half;
 use receiver::packet_count;
 
@@ -19,17 +19,12 @@ pub fn v3(block: &[u8]) -> bool
     requires { spec.Fronted block.now }
     ensures { result ≡ spec.v3 block.now }
 {
-    let stage = block[parts::STAGE];
-    if stage == 0 {
-        return idle(block);
+    match block[parts::STAGE] {
+        0 => idle(block),
+        1 => receiving(block),
+        2 => awaiting(block),
+        _ => false,
     }
-    if stage == 1 {
-        return receiving(block);
-    }
-    if stage == 2 {
-        return awaiting(block);
-    }
-    false
 }
 
 // An idle receiver holds nothing.
@@ -37,19 +32,11 @@ fn idle(block: &[u8]) -> bool
     requires { spec.Fronted block.now }
     ensures { result ≡ v3_at Idle (load block.now).port.rx (load block.now).port.store }
 {
-    if block[parts::EXPECTED] != 0 {
-        return false;
-    }
-    if block[parts::RECEIVED] != 0 {
-        return false;
-    }
-    if block[parts::BITS] != 0 {
-        return false;
-    }
-    if !all_zero(&block[parts::PACKET..parts::STORE]) {
-        return false;
-    }
-    all_zero(&block[parts::STORE..parts::PRESET])
+    block[parts::EXPECTED] == 0
+        && block[parts::RECEIVED] == 0
+        && block[parts::BITS] == 0
+        && all_zero(&block[parts::PACKET..parts::STORE])
+        && all_zero(&block[parts::STORE..parts::PRESET])
 }
 
 // Up to 128 bits of the packet are in, and none of those to come is set; on the first packet nothing else is held.
@@ -58,23 +45,19 @@ fn receiving(block: &[u8]) -> bool
     ensures { result ≡ v3_at Receiving (load block.now).port.rx (load block.now).port.store }
 {
     let bits = block[parts::BITS];
-    if bits > 128 {
-        return false;
-    }
-    if !clear_from(
-        half(block, parts::PACKET),
-        half(block, parts::PACKET + 8),
-        bits,
-    ) {
+    if bits > 128
+        || !clear_from(
+            half(block, parts::PACKET),
+            half(block, parts::PACKET + 8),
+            bits,
+        )
+    {
         return false;
     }
     if block[parts::RECEIVED] != 0 {
         return some_in(block);
     }
-    if block[parts::EXPECTED] != 0 {
-        return false;
-    }
-    all_zero(&block[parts::STORE..parts::PRESET])
+    block[parts::EXPECTED] == 0 && all_zero(&block[parts::STORE..parts::PRESET])
 }
 
 // Between two packets no bit is in.
@@ -82,13 +65,7 @@ fn awaiting(block: &[u8]) -> bool
     requires { spec.Fronted block.now }
     ensures { result ≡ v3_at Awaiting (load block.now).port.rx (load block.now).port.store }
 {
-    if block[parts::BITS] != 0 {
-        return false;
-    }
-    if !all_zero(&block[parts::PACKET..parts::STORE]) {
-        return false;
-    }
-    some_in(block)
+    block[parts::BITS] == 0 && all_zero(&block[parts::PACKET..parts::STORE]) && some_in(block)
 }
 
 // No bit of a packet at `bits` or past it is set.
@@ -96,16 +73,11 @@ fn clear_from(lo: u64, hi: u64, bits: u8) -> bool
     requires { bits ≤ 128 }
     ensures { result ≡ ltb (words lo hi) (2 ^ bits) }
 {
-    if bits == 128 {
-        return true;
+    match bits {
+        0..=63 => hi == 0 && lo >> bits == 0,
+        64..=127 => hi >> (bits - 64) == 0,
+        _ => true,
     }
-    if bits >= 64 {
-        return hi >> (bits - 64) == 0;
-    }
-    if hi != 0 {
-        return false;
-    }
-    lo >> bits == 0
 }
 
 // Some packets are in and some are due, as the store's first byte counts them, and the store holds no more than those.
@@ -115,18 +87,9 @@ fn some_in(block: &[u8]) -> bool
 {
     let received = block[parts::RECEIVED];
     let expected = block[parts::EXPECTED];
-    if received < 1 {
-        return false;
-    }
-    if received >= expected {
-        return false;
-    }
-    if expected > 7 {
-        return false;
-    }
-    if expected != packet_count(block[parts::STORE]) {
-        return false;
-    }
-    let past = parts::STORE + 16 * wide(received);
-    all_zero(&block[past..parts::PRESET])
+    1 <= received
+        && received < expected
+        && expected <= 7
+        && expected == packet_count(block[parts::STORE])
+        && all_zero(&block[parts::STORE + 16 * usize::from(received)..parts::PRESET])
 }

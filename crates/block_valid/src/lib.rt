@@ -14,15 +14,9 @@ pub fn v1(block: &[u8]) -> bool
     requires { spec.Fronted block.now }
     ensures { result ≡ spec.v1 block.now }
 {
-    if block[parts::MASK] > 3 {
-        return false;
-    }
     let pads = block[parts::PADS];
-    if pads > 3 {
-        return false;
-    }
     let index = block[parts::INDEX];
-    index & pads == index
+    block[parts::MASK] <= 3 && pads <= 3 && index & pads == index
 }
 
 // The four flags are 0 or 1, both lines are high only if P15 is, and the spare bytes hold nothing.
@@ -30,29 +24,19 @@ pub fn v2(block: &[u8]) -> bool
     requires { spec.Fronted block.now }
     ensures { result ≡ spec.v2 block.now }
 {
-    if block[parts::P15] > 1 {
-        return false;
-    }
-    if block[parts::BOTH] > 1 {
-        return false;
-    }
-    if block[parts::PRESET_ON] > 1 {
-        return false;
-    }
-    if block[parts::FROZEN_ON] > 1 {
-        return false;
-    }
-    if !lines_agree(block[parts::P15], block[parts::BOTH]) {
-        return false;
-    }
-    all_zero(&block[parts::SPARE..parts::PACKET])
+    block[parts::P15] <= 1
+        && block[parts::BOTH] <= 1
+        && block[parts::PRESET_ON] <= 1
+        && block[parts::FROZEN_ON] <= 1
+        && lines_agree(block[parts::P15], block[parts::BOTH])
+        && all_zero(&block[parts::SPARE..parts::PACKET])
 }
 
 // Both lines are high only if P15 is.
 pub fn lines_agree(p15: u8, both: u8) -> bool
     ensures { result ≡ cond (is_set both) (is_set p15) true }
 {
-    if both == 1 { p15 == 1 } else { true }
+    both != 1 || p15 == 1
 }
 
 // Nothing is pending, or one of the five kinds is, with 1, 2 or 3 screens to go.
@@ -60,15 +44,12 @@ pub fn v4(block: &[u8]) -> bool
     requires { spec.Fronted block.now }
     ensures { result ≡ spec.v4 block.now }
 {
-    let countdown = block[parts::COUNTDOWN];
     let kind = block[parts::KIND];
-    if countdown == 0 {
-        return kind == 0;
+    match block[parts::COUNTDOWN] {
+        0 => kind == 0,
+        1..=3 => kind <= 4,
+        _ => false,
     }
-    if countdown > 3 {
-        return false;
-    }
-    kind <= 4
 }
 
 // A preset that is not in force is all zeros.
@@ -76,10 +57,7 @@ pub fn v5(block: &[u8]) -> bool
     requires { spec.Fronted block.now }
     ensures { result ≡ spec.v5 block.now }
 {
-    if block[parts::PRESET_ON] != 0 {
-        return true;
-    }
-    all_zero(&block[parts::PRESET..parts::PALETTES])
+    block[parts::PRESET_ON] != 0 || all_zero(&block[parts::PRESET..parts::PALETTES])
 }
 
 // A frozen capture must be there in mode 1, may be there in mode 0, is not there in modes 2 and 3, and is then all zeros.
@@ -87,24 +65,18 @@ pub fn v6(block: &[u8]) -> bool
     requires { length block.now ≡ block_bytes }
     ensures { result ≡ spec.v6 block.now }
 {
-    if !mask_allows(block[parts::MASK], block[parts::FROZEN_ON]) {
-        return false;
-    }
-    if block[parts::FROZEN_ON] != 0 {
-        return true;
-    }
-    all_zero(&block[parts::FROZEN..parts::TILES])
+    let frozen_on = block[parts::FROZEN_ON];
+    mask_allows(block[parts::MASK], frozen_on)
+        && (frozen_on != 0 || all_zero(&block[parts::FROZEN..parts::TILES]))
 }
 
 // Whether a mask mode and byte 12 go together.
 pub fn mask_allows(mask: u8, frozen_on: u8) -> bool
     ensures { result ≡ spec.mask_allows mask frozen_on }
 {
-    if mask == 0 {
-        return true;
+    match mask {
+        0 => true,
+        1 => frozen_on == 1,
+        _ => frozen_on == 0,
     }
-    if mask == 1 {
-        return frozen_on == 1;
-    }
-    frozen_on == 0
 }

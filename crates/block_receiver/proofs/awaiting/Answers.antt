@@ -1,19 +1,17 @@
--- Each test of that row of V3 (RULES 1.8) in turn; the packet's number is 0 if its bytes are.
-use borrow.Author.Tests.{eq-eqb, ne_eqb}
-use mathlib.Core.Path.{sym, ◌∙◌}
+-- That row of V3 (RULES 1.8) test by test; the packet's number is 0 if its bytes are.
+use native.Mathlib.Omega.{arith}
+use Rattle.std.proofs.lemmas.Bool.Decides.{nat_tests}
+use Rattle.bits.specs.Over.{part}
+use Rattle.parts.specs.Parts.{packet_at, packet_bytes}
 use Rattle.layout.specs.Block.{load}
 use Rattle.receiver.specs.Valid.{v3_at}
 use Rattle.block_receiver.proofs.Bytes.{zero-value}
 use Rattle.block_receiver.proofs.awaiting.Goals as goal
 
-pub returns-then-block-ne0 : goal.returns-then-block-ne0
+pub returns-then-all_zero : goal.returns-then-all_zero
 unfolding v3_at load
-returns-then-block-ne0 c = rw (ne_eqb _ _ c.if-block-ne0.true)
+returns-then-all_zero c = grind (arith, nat_tests, zero-value (part packet_at packet_bytes c.args.block.now))
 
-pub returns-then-not-all_zero : goal.returns-then-not-all_zero
+pub returns-else-all_zero : goal.returns-else-all_zero
 unfolding v3_at load
-returns-then-not-all_zero c = rw (eq-eqb _ _ c.if-block-ne0.false, sym (zero-value _) ∙ sym c.all_zero.ensures ∙ c.if-not-all_zero.true)
-
-pub returns : goal.returns
-unfolding v3_at load
-returns c = rw (eq-eqb _ _ c.if-block-ne0.false, sym (zero-value _) ∙ sym c.all_zero.ensures ∙ c.if-not-all_zero.false) c.some_in.ensures
+returns-else-all_zero c = grind (arith, nat_tests, zero-value (part packet_at packet_bytes c.args.block.now))

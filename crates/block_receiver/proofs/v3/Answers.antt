@@ -9,18 +9,18 @@ use Rattle.receiver.specs.Valid as receiver
 use Rattle.block_receiver.proofs.Bytes.{part_bytes}
 use Rattle.block_receiver.proofs.v3.Goals as goal
 
-pub returns-then-stage-eq0 : goal.returns-then-stage-eq0
+pub returns-in-0 : goal.returns-in-0
 unfolding v3 load stage_of receiver.v3 receiver.v3_at
-returns-then-stage-eq0 c = rw (c.if-stage-eq0.true, part_bytes c.args.block.now 16 16 (λ i. omega (arith, c.shared_slice_known-1.given i)) (omega arith)) c.idle.ensures
+returns-in-0 c = rw (c.in-0.is, part_bytes c.args.block.now 16 16 (λ i. omega (arith, c.type_inv.block i)) (omega arith)) c.idle.ensures
 
-pub returns-then-stage-eq1 : goal.returns-then-stage-eq1
+pub returns-in-1 : goal.returns-in-1
 unfolding v3 load stage_of receiver.v3 receiver.v3_at
-returns-then-stage-eq1 c = rw (c.if-stage-eq1.true, part_bytes c.args.block.now 16 16 (λ i. omega (arith, c.shared_slice_known-1.given i)) (omega arith)) c.receiving.ensures
+returns-in-1 c = rw (c.in-1.is, part_bytes c.args.block.now 16 16 (λ i. omega (arith, c.type_inv.block i)) (omega arith)) c.receiving.ensures
 
-pub returns-then-stage-eq2 : goal.returns-then-stage-eq2
+pub returns-in-2 : goal.returns-in-2
 unfolding v3 load stage_of receiver.v3 receiver.v3_at
-returns-then-stage-eq2 c = rw (c.if-stage-eq2.true, part_bytes c.args.block.now 16 16 (λ i. omega (arith, c.shared_slice_known-1.given i)) (omega arith)) c.awaiting.ensures
+returns-in-2 c = rw (c.in-2.is, part_bytes c.args.block.now 16 16 (λ i. omega (arith, c.type_inv.block i)) (omega arith)) c.awaiting.ensures
 
-pub returns : goal.returns
+pub returns-in_default : goal.returns-in_default
 unfolding v3
-returns c = rw (lt-leb (get_or c.args.block.now stage_at 0) 2 (omega arith))
+returns-in_default c = rw (lt-leb (get_or c.args.block.now stage_at 0) 2 (omega arith))

@@ -1,16 +1,17 @@
 -- Each arm is the definition's.
-use borrow.Author.Tests.{eq-eqb, ne_eqb}
+use native.Mathlib.Omega.{arith}
+use Rattle.std.proofs.lemmas.Bool.Decides.{nat_tests}
 use Rattle.layout.specs.Valid.{mask_allows}
 use Rattle.block_valid.proofs.mask_allows.Goals as goal
 
-pub returns-then-mask-eq0 : goal.returns-then-mask-eq0
+pub returns-in-0 : goal.returns-in-0
 unfolding mask_allows
-returns-then-mask-eq0 c = rw (eq-eqb _ _ c.if-mask-eq0.true)
+returns-in-0 c = grind (arith, nat_tests)
 
-pub returns-then-mask-eq1 : goal.returns-then-mask-eq1
+pub returns-in-1 : goal.returns-in-1
 unfolding mask_allows
-returns-then-mask-eq1 c = rw (ne_eqb _ _ c.if-mask-eq0.false, eq-eqb _ _ c.if-mask-eq1.true)
+returns-in-1 c = grind (arith, nat_tests)
 
-pub returns : goal.returns
+pub returns-in_default : goal.returns-in_default
 unfolding mask_allows
-returns c = rw (ne_eqb _ _ c.if-mask-eq0.false, ne_eqb _ _ c.if-mask-eq1.false)
+returns-in_default c = grind (arith, nat_tests)

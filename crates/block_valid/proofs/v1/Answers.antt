@@ -1,16 +1,13 @@
--- Each test of V1 as the code makes it, in the definition's order.
-use borrow.Author.Tests.{le-leb, lt-leb}
+-- The tests of V1 are the definition's.
+use native.Mathlib.Omega.{arith}
+use Rattle.std.proofs.lemmas.Bool.Decides.{nat_tests}
 use Rattle.layout.specs.Valid.{v1}
 use Rattle.block_valid.proofs.v1.Goals as goal
 
-pub returns-then-block-gt3 : goal.returns-then-block-gt3
+pub returns-then-pads-le3 : goal.returns-then-pads-le3
 unfolding v1
-returns-then-block-gt3 c = rw (lt-leb _ _ c.if-block-gt3.true)
+returns-then-pads-le3 c = grind (arith, nat_tests)
 
-pub returns-then-pads-gt3 : goal.returns-then-pads-gt3
+pub returns-else-pads-le3 : goal.returns-else-pads-le3
 unfolding v1
-returns-then-pads-gt3 c = rw (le-leb _ _ c.if-block-gt3.false, lt-leb _ _ c.if-pads-gt3.true)
-
-pub returns : goal.returns
-unfolding v1
-returns c = rw (le-leb _ _ c.if-block-gt3.false, le-leb _ _ c.if-pads-gt3.false)
+returns-else-pads-le3 c = grind (arith, nat_tests)

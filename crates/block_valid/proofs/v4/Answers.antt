@@ -1,21 +1,17 @@
 -- A countdown of 0 leaves the first half of the rule, any other the second.
-use borrow.Author.Tests.{eq-eqb, ne_eqb, le-leb, lt-leb}
-use mathlib.Core.Path.{sym}
 use native.Mathlib.Omega.{arith}
-use lib.ListN.{get_or}
-use Rattle.parts.specs.Parts.{countdown_at}
-use Rattle.bits.proofs.Tests.{or-false}
+use Rattle.std.proofs.lemmas.Bool.Decides.{nat_tests}
 use Rattle.layout.specs.Valid.{v4}
 use Rattle.block_valid.proofs.v4.Goals as goal
 
-pub returns-then-countdown-eq0 : goal.returns-then-countdown-eq0
+pub returns-in-0 : goal.returns-in-0
 unfolding v4
-returns-then-countdown-eq0 c = rw (eq-eqb _ _ c.if-countdown-eq0.true, lt-leb 1 (get_or c.args.block.now countdown_at 0) (omega arith)) (sym (or-false _))
+returns-in-0 c = grind (arith, nat_tests)
 
-pub returns-then-countdown-gt3 : goal.returns-then-countdown-gt3
+pub returns-in-1-to-3 : goal.returns-in-1-to-3
 unfolding v4
-returns-then-countdown-gt3 c = rw (ne_eqb _ _ c.if-countdown-eq0.false, lt-leb _ _ c.if-countdown-gt3.true, le-leb 1 (get_or c.args.block.now countdown_at 0) (omega arith))
+returns-in-1-to-3 c = grind (arith, nat_tests)
 
-pub returns : goal.returns
+pub returns-in_default : goal.returns-in_default
 unfolding v4
-returns c = rw (ne_eqb _ _ c.if-countdown-eq0.false, le-leb _ _ c.if-countdown-gt3.false, le-leb 1 (get_or c.args.block.now countdown_at 0) (omega arith))
+returns-in_default c = grind (arith, nat_tests)
