@@ -4,19 +4,20 @@ use mathlib.Core.Path.{◌≡◌, refl, ap, ◌∙◌}
 use Prim.Native.Nat.{ℕ, zero, suc, ◌+◌, ◌*◌, ◌<◌}
 use native.Mathlib.Omega.{arith}
 use lib.Dec.{lit<}
-use lib.ListN.{length, take, set, replicate, length-set, length-take}
+use lib.ListN.{length, set, length-set, length-take}
 use Rattle.parts.specs.Parts.{block_bytes, index_at, p15_at, both_at, stage_at, expected_at, received_at, bits_at, packet_at, packet_bytes, store_at, store_bytes}
 use Rattle.bits.proofs.Overs.{length_over}
 use Rattle.bits.specs.Over.{over}
 use Rattle.receiver.proofs.Words.{length-bytes}
 use Rattle.receiver.specs.Receive.{Rx, stage_number, words, rx_of}
-use Rattle.receiver.specs.Store.{bytes_of}
+use Rattle.std.specs.Prelude.{Some}
+use Rattle.receiver.specs.Store.{bytes_of, packets_if}
 use Rattle.receiver.specs.declared.Receiver.{Receiver}
 use Rattle.layout.proofs.Made.{Made, made_put, made-set, made-save}
 use Rattle.layout.specs.Block.{flag, parts, save}
 use Rattle.layout.specs.Sgb.{Sgb}
 use Rattle.block_packet.proofs.Halves.{put-words}
-use Rattle.block_port.specs.Bytes.{put_receiver, put_lines, handed, packets_told, taken, settled}
+use Rattle.block_port.specs.Bytes.{put_receiver, put_lines, packets_told, packets_some, taken, settled, taken_by, settled_by}
 use Rattle.rules.specs.Carry.{with_pads}
 use Rattle.receiver_run.specs.declared.Lines.{Lines}
 
@@ -27,21 +28,21 @@ unfolding taken packets_told
 packets-taken zero s few long = refl
 packets-taken (suc n) s few long = omega (arith, length-take (16 * suc n) s)
 
--- the store and the buffer, where no command is complete, and where one is
-pub none_over : (n : ℕ) (s buffer : List ℕ) → n ≡ 0 → (s ≡ settled n s) × (buffer ≡ handed (taken n s) buffer)
-unfolding settled taken handed
-none_over zero s buffer e = (refl, refl)
-none_over (suc n) s buffer e = absurd (omega arith)
+-- the same of the code's packets
+pub packets-some : (n : ℕ) (s : List ℕ) → n < 8 → length s ≡ store_bytes → packets_if n ≡ packets_some (taken n s)
+unfolding packets_if taken packets_some packets_told
+packets-some zero s few long = refl
+packets-some (suc n) s few long = ap Some (packets-taken (suc n) s few long)
 
-pub one-settled : (n m : ℕ) (s : List ℕ) → (n ≡ 0 → ⊥) → m ≡ store_bytes → replicate m 0 ≡ settled n s
-unfolding settled
-one-settled zero m s h e = absurd (h refl)
-one-settled (suc n) m s h e = rw e refl
+pub taken-if : (n : ℕ) (s : List ℕ) → taken_by (packets_if n) s ≡ taken n s
+unfolding packets_if taken taken_by
+taken-if zero s = refl
+taken-if (suc n) s = refl
 
-pub one-handed : (n : ℕ) (s buffer : List ℕ) → (n ≡ 0 → ⊥) → over 0 (length (take (16 * n) s)) (take (16 * n) s) buffer ≡ handed (taken n s) buffer
-unfolding taken handed
-one-handed zero s buffer h = absurd (h refl)
-one-handed (suc n) s buffer h = refl
+pub settled-if : (n : ℕ) (s : List ℕ) → settled_by (packets_if n) s ≡ settled n s
+unfolding packets_if settled settled_by
+settled-if zero s = refl
+settled-if (suc n) s = refl
 
 -- ---- the port's bytes
 

@@ -1,6 +1,8 @@
 -- The port's bytes of the block: what the code reads of a unit and puts back. RULES 1.4 and 1.5: bytes 1 and 3 to 8, and the
 -- current packet from byte 16 on. The packet store is a part of its own.
 use Rattle.std.specs.Prelude.{ℕ, zero, suc, ◌*◌, ◌/◌, List, ◌++◌, length, take, drop, set, replicate}
+use Rattle.std.specs.Prelude as code
+use Rattle.std.specs.Prelude.{None, Some}
 use Rattle.std.proofs.Math.Option.{Option, none, some}
 use Rattle.bits.specs.Over.{over}
 use Rattle.receiver.specs.Receive.{Rx, stage_number}
@@ -36,6 +38,11 @@ unfoldable pub packets_told : Option (List ℕ) → ℕ
 packets_told none = 0
 packets_told (some c) = length c / 16
 
+-- the same as the code answers it
+unfoldable pub packets_some : Option (List ℕ) → code.Option ℕ
+packets_some none = None
+packets_some (some c) = Some (length c / 16)
+
 -- ---- a complete command of so many packets, or 0
 
 -- it stands at the front of the store
@@ -47,3 +54,12 @@ taken (suc n) s = some (take (16 * suc n) s)
 unfoldable pub settled : ℕ → List ℕ → List ℕ
 settled zero s = s
 settled (suc n) s = replicate store_bytes 0
+
+-- the same of the code's packets
+unfoldable pub taken_by : code.Option ℕ → List ℕ → Option (List ℕ)
+taken_by None s = none
+taken_by (Some n) s = some (take (16 * n) s)
+
+unfoldable pub settled_by : code.Option ℕ → List ℕ → List ℕ
+settled_by None s = s
+settled_by (Some n) s = replicate store_bytes 0

@@ -4,11 +4,12 @@
 
 ghost use Rattle.std.specs.Prelude.{◌≡◌, ◌≤◌, ◌<◌, length};
 ghost use Rattle.parts.specs.Parts.{block_bytes, store_bytes};
-ghost use Rattle.layout.specs.Block.{load, stage_of, flag};
+ghost use Rattle.layout.specs.Block.{load, stage_of};
 ghost use Rattle.receiver.specs.Receive.{rx_of};
-ghost use Rattle.block_port.specs.Bytes.{lines_of, put_receiver, put_lines, handed, taken, settled};
+ghost use Rattle.receiver.specs.Store.{number_if};
+ghost use Rattle.block_port.specs.Bytes.{lines_of, put_receiver, put_lines, handed, taken_by, settled_by};
 
-use bits::{clear, put, wide};
+use bits::{clear, put};
 use block_packet::{half, put_half};
 use receiver::{Receiver, Stage, stage_number};
 use receiver_run::Lines;
@@ -27,16 +28,15 @@ pub fn load_receiver(block: &[u8]) -> Receiver
     }
 }
 
+#[tactic(auto, unfolding(layout::specs::Block::stage_of))]
 fn stage_of(number: u8) -> Stage
     ensures { result ≡ stage_of number }
 {
-    if number == 0 {
-        return Stage::Idle;
+    match number {
+        0 => Stage::Idle,
+        1 => Stage::Receiving,
+        _ => Stage::Awaiting,
     }
-    if number == 1 {
-        return Stage::Receiving;
-    }
-    Stage::Awaiting
 }
 
 pub fn load_lines(block: &[u8]) -> Lines
@@ -51,25 +51,22 @@ pub fn load_lines(block: &[u8]) -> Lines
 }
 
 // A complete command goes on from the store into the buffer, and leaves the store empty.
-pub fn hand_over(packets: u8, store: &mut [u8], command: &mut [u8])
-    requires { (packets < 8) × ((length store.old ≡ store_bytes) × (store_bytes ≤ length command.old)) }
-    ensures store_after { store.new ≡ settled packets store.old }
-    ensures command_after { command.new ≡ handed (taken packets store.old) command.old }
+pub fn hand_over(packets: Option<u8>, store: &mut [u8], command: &mut [u8])
+    requires { (number_if packets < 8) × ((length store.old ≡ store_bytes) × (store_bytes ≤ length command.old)) }
+    ensures store_after { store.new ≡ settled_by packets store.old }
+    ensures command_after { command.new ≡ handed (taken_by packets store.old) command.old }
 {
-    if packets == 0 {
-        return;
+    if let Some(n) = packets {
+        put(command, 0, &store[..16 * usize::from(n)]);
+        clear(store);
     }
-    let end = 16 * wide(packets);
-    put(command, 0, &store[0..end]);
-    clear(store);
 }
 
 pub fn save_receiver(block: &mut [u8], rx: Receiver)
     requires { length block.old ≡ block_bytes }
     ensures { block.new ≡ put_receiver (rx_of rx) block.old }
 {
-    let stage = rx.stage;
-    block[parts::STAGE] = stage_number(stage);
+    block[parts::STAGE] = stage_number(rx.stage);
     block[parts::EXPECTED] = rx.expected;
     block[parts::RECEIVED] = rx.received;
     block[parts::BITS] = rx.bits;
@@ -82,12 +79,6 @@ pub fn save_lines(block: &mut [u8], lines: Lines)
     ensures { block.new ≡ put_lines lines block.old }
 {
     block[parts::INDEX] = lines.index;
-    block[parts::P15] = flag(lines.p15);
-    block[parts::BOTH] = flag(lines.both);
-}
-
-fn flag(on: bool) -> u8
-    ensures { result ≡ flag on }
-{
-    if on { 1 } else { 0 }
+    block[parts::P15] = u8::from(lines.p15);
+    block[parts::BOTH] = u8::from(lines.both);
 }

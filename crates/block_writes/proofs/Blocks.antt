@@ -11,7 +11,7 @@ use Rattle.bits.proofs.Overs.{length_over}
 use Rattle.receiver.specs.Lines.{indexed}
 use Rattle.receiver.specs.Port.{step_at}
 use Rattle.receiver.specs.Receive.{Rx, rx_of}
-use Rattle.receiver.specs.Store.{packets_of}
+use Rattle.receiver.specs.Store.{packets_of, packets_if, number_if}
 use Rattle.receiver.specs.declared.Receiver.{Receiver}
 use Rattle.receiver.proofs.Keeps.{v3-sound}
 use Rattle.attribute_map.specs.Data.{Whole}
@@ -29,8 +29,8 @@ use Rattle.layout.proofs.Made.{made_of}
 use Rattle.rules.specs.Carry.{with_pads, carried}
 use Rattle.rules.specs.Write.{meant, answer}
 use Rattle.rules.proofs.Keeps.{WholeIf, answered-whole, good-stepped, good-written}
-use Rattle.block_port.specs.Bytes.{lines_of, put_receiver, put_lines, handed, packets_told, taken, settled}
-use Rattle.block_port.proofs.Steps.{port_made, length-receiver, packets-taken}
+use Rattle.block_port.specs.Bytes.{lines_of, put_receiver, put_lines, handed, packets_told, packets_some, taken, settled, taken_by, settled_by}
+use Rattle.block_port.proofs.Steps.{port_made, length-receiver, packets-taken, packets-some, taken-if, settled-if}
 use Rattle.block_port.proofs.Handed.{none-carried, front}
 use Rattle.block_plain.specs.Carrying.{carried_block}
 use Rattle.block_command.proofs.Told.{carried-good}
@@ -98,20 +98,25 @@ length-settled (suc n) s h = length-replicate {A = ℕ} store_bytes 0
 
 -- what `run_on` has at hand after its run
 pub run-few : (mask x : ℕ) (r : Receiver) (l : Lines) (s ws : List ℕ) (q : Ran) (s' : List ℕ) → Ready (port_of r l s) x mask
-    → ended_of q s' ≡ runs mask 0 x (port_of r l s) ws → (q.packets < 8) × (length s' ≡ store_bytes)
+    → ended_of q s' ≡ runs mask 0 x (port_of r l s) ws → (number_if q.packets < 8) × (length s' ≡ store_bytes)
 run-few mask x r l s ws q s' k e = (
   subst⁻¹ (λ (d : Ended). d.packets < 8) e (complete mask 0 x (port_of r l s) ws k).few,
   ap (λ (d : Ended). length d.port.store) e ∙ (ready-runs mask 0 x (port_of r l s) ws k).long,
 )
 
-pub run-handed : (mask x : ℕ) (r : Receiver) (l : Lines) (s ws : List ℕ) (q : Ran) (s' s'' buffer buffer' : List ℕ)
-    → ended_of q s' ≡ runs mask 0 x (port_of r l s) ws → s'' ≡ settled q.packets s' → buffer' ≡ handed (taken q.packets s') buffer
-    → (ended_of q s'' ≡ handed_over (runs mask 0 x (port_of r l s) ws)) × (buffer' ≡ handed (command_of (runs mask 0 x (port_of r l s) ws)) buffer)
+pub run-handed : (e : Ended) (q : Ran) (s' s'' buffer buffer' : List ℕ) → ended_of q s' ≡ e → q.packets ≡ packets_if e.packets
+    → s'' ≡ settled_by q.packets s' → buffer' ≡ handed (taken_by q.packets s') buffer
+    → (ended_of q s'' ≡ handed_over e) × (buffer' ≡ handed (command_of e) buffer)
 unfolding handed_over command_of
-run-handed mask x r l s ws q s' s'' buffer buffer' e f h = (
-  ap (ended_of q) f ∙ ap handed_over e,
-  h ∙ ap (λ (d : Ended). handed (command_of d) buffer) e,
-)
+run-handed e q s' s'' buffer buffer' is p f h =
+    let n : e.packets ≡ number_if q.packets = sym (ap (λ (d : Ended). d.packets) is) in
+    let store : s'' ≡ settled (number_if q.packets) s' =
+    f ∙ ap (λ o. settled_by o s') p ∙ settled-if e.packets s' ∙ ap (λ (k : ℕ). settled k s') n in
+    let command : taken_by q.packets s' ≡ taken (number_if q.packets) s' =
+    ap (λ o. taken_by o s') p ∙ taken-if e.packets s' ∙ ap (λ (k : ℕ). taken k s') n in (
+      ap (ended_of q) store ∙ ap handed_over is,
+      h ∙ ap (λ o. handed o buffer) command ∙ ap (λ (d : Ended). handed (command_of d) buffer) is,
+    )
 
 module _ (b : List ℕ) (ok : Valid b) (r : Receiver) (l : Lines) (rx : rx_of r ≡ (load b).port.rx) (lines : l ≡ lines_of (load b)) where
   good : Good (load b)
@@ -148,15 +153,12 @@ module _ (b : List ℕ) (ok : Valid b) (r : Receiver) (l : Lines) (rx : rx_of r 
     receiver-long m h = ap length h ∙ length-receiver (rx_of q.rx) (over store_at store_bytes s b) put-long
 
     pub ran : (m m' : List ℕ) → m ≡ put_receiver (rx_of q.rx) (over store_at store_bytes s b) → m' ≡ put_lines q.lines m
-        → (q.at ≡ e.at) × ((q.packets ≡ e.packets) × (m' ≡ save (ran_unit (load b) e)))
+        → (q.at ≡ e.at) × (m' ≡ save (ran_unit (load b) e))
     unfolding handed_over ran_unit
     ran m m' h k = (
       ap (λ (d : Ended). d.at) is,
-      (
-        ap (λ (d : Ended). d.packets) is,
-        k ∙ ap (put_lines q.lines) h ∙ port_made b (load b) (made_of b ok.tested) s store_long (rx_of q.rx) q.lines
-            ∙ ap (λ (d : Ended). save (record { port = d.port; game = with_pads d.index (load b).game.pads (load b).game; snes = (load b).snes })) is,
-      ),
+      k ∙ ap (put_lines q.lines) h ∙ port_made b (load b) (made_of b ok.tested) s store_long (rx_of q.rx) q.lines
+          ∙ ap (λ (d : Ended). save (record { port = d.port; game = with_pads d.index (load b).game.pads (load b).game; snes = (load b).snes })) is,
     )
 
 -- ---- the run's command, carried out
@@ -180,15 +182,20 @@ module _ (b ws m : List ℕ) (ok : Valid b) (made : m ≡ save (ran_unit (load b
   pub played-told : command_of e' ≡ (played (load b) ws).told
   played-told = sym (ap (λ (p : Played). p.told) all)
 
-  told-packets : e'.packets ≡ packets_told (command_of e')
-  told-packets =
-      let r : Ready (load b).port (load b).game.index (load b).game.pads = good-ready (load b) (valid-good b ok.tested) in
-      unfold command_of in packets-taken e'.packets e'.port.store
-      (unfold ran_to in (complete (load b).game.pads 0 (load b).game.index (load b).port ws r).few)
-      (unfold ran_to in (ready-runs (load b).game.pads 0 (load b).game.index (load b).port ws r).long)
+  few : e'.packets < 8
+  few = unfold ran_to in (complete (load b).game.pads 0 (load b).game.index (load b).port ws (good-ready (load b) (valid-good b ok.tested))).few
 
-  pub played-packets : e'.packets ≡ packets_told (played (load b) ws).told
-  played-packets = told-packets ∙ ap packets_told played-told
+  long : length e'.port.store ≡ store_bytes
+  long = unfold ran_to in (ready-runs (load b).game.pads 0 (load b).game.index (load b).port ws (good-ready (load b) (valid-good b ok.tested))).long
+
+  told-packets : e'.packets ≡ packets_told (command_of e')
+  told-packets = unfold command_of in packets-taken e'.packets e'.port.store few long
+
+  some-packets : packets_if e'.packets ≡ packets_some (command_of e')
+  some-packets = unfold command_of in packets-some e'.packets e'.port.store few long
+
+  pub played-packets : packets_if e'.packets ≡ packets_some (played (load b) ws).told
+  played-packets = some-packets ∙ ap packets_some played-told
 
   -- none was complete: all is done
   pub played-none : e'.packets ≡ 0 → m ≡ save (played (load b) ws).unit

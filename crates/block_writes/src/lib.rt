@@ -7,7 +7,8 @@ ghost use Rattle.parts.specs.Parts.{store_bytes};
 ghost use Rattle.layout.specs.Block.{load, save};
 ghost use Rattle.layout.specs.Valid.{Valid};
 ghost use Rattle.rules.specs.Write.{written, answer};
-ghost use Rattle.block_port.specs.Bytes.{handed, packets_told};
+ghost use Rattle.block_port.specs.Bytes.{handed, packets_some};
+ghost use Rattle.receiver.specs.Store.{packets_if};
 ghost use Rattle.receiver_run.specs.Run.{runs, port_of, ended_of, Ready};
 ghost use Rattle.block_writes.specs.Play.{played};
 ghost use Rattle.block_writes.specs.Ran.{ran_to, ran_unit, handed_over, command_of};
@@ -17,34 +18,32 @@ use block_port::{hand_over, load_lines, load_receiver, save_lines, save_receiver
 use receiver::Receiver;
 use receiver_run::{Lines, Ran};
 
-// After how many writes it ended, and the packets of the command that the last of them completed, or 0.
+// After how many writes it ended, and the packets of the command that the last of them completed.
 #[derive(Clone, Copy)]
 pub struct Played {
     pub at: usize,
-    pub packets: u8,
+    pub packets: Option<u8>,
 }
 
 // A command that is complete stands at the front of the buffer, and has been carried out.
 pub fn play(block: &mut [u8], writes: &[u8], command: &mut [u8]) -> Played
     requires { Valid block.old × (store_bytes ≤ length command.old) }
     ensures at_value { result.at ≡ (played (load block.old) writes.now).at }
-    ensures packets_value { result.packets ≡ packets_told (played (load block.old) writes.now).told }
+    ensures packets_value { result.packets ≡ packets_some (played (load block.old) writes.now).told }
     ensures block_after { block.new ≡ save (played (load block.old) writes.now).unit }
     ensures command_after { command.new ≡ handed (played (load block.old) writes.now).told command.old }
 {
     let p = play_port(block, writes, command);
-    let n = p.packets;
-    if n == 0 {
-        return p;
+    if let Some(n) = p.packets {
+        carry_front(block, command, n);
     }
-    carry_front(block, command, n);
     p
 }
 
-// One write alone: the packets of the command that it completes, or 0.
-pub fn write(block: &mut [u8], value: u8, command: &mut [u8]) -> u8
+// One write alone: the packets of the command that it completes.
+pub fn write(block: &mut [u8], value: u8, command: &mut [u8]) -> Option<u8>
     requires { Valid block.old × (store_bytes ≤ length command.old) }
-    ensures value { result ≡ packets_told (answer (load block.old) value) }
+    ensures value { result ≡ packets_some (answer (load block.old) value) }
     ensures block_after { block.new ≡ save (written (load block.old) value) }
     ensures command_after { command.new ≡ handed (answer (load block.old) value) command.old }
 {
@@ -57,7 +56,7 @@ pub fn write(block: &mut [u8], value: u8, command: &mut [u8]) -> u8
 fn play_port(block: &mut [u8], writes: &[u8], command: &mut [u8]) -> Played
     requires { Valid block.old × (store_bytes ≤ length command.old) }
     ensures at_value { result.at ≡ (ran_to (load block.old) writes.now).at }
-    ensures packets_value { result.packets ≡ (ran_to (load block.old) writes.now).packets }
+    ensures packets_value { result.packets ≡ packets_if (ran_to (load block.old) writes.now).packets }
     ensures block_after { block.new ≡ save (ran_unit (load block.old) (ran_to (load block.old) writes.now)) }
     ensures command_after { command.new ≡ handed (command_of (ran_to (load block.old) writes.now)) command.old }
 {
@@ -72,10 +71,8 @@ fn play_port(block: &mut [u8], writes: &[u8], command: &mut [u8]) -> Played
         &mut block[parts::STORE..parts::PRESET],
         command,
     );
-    let next = r.rx;
-    save_receiver(block, next);
-    let after = r.lines;
-    save_lines(block, after);
+    save_receiver(block, r.rx);
+    save_lines(block, r.lines);
     Played {
         at: r.at,
         packets: r.packets,
@@ -93,6 +90,7 @@ fn run_on(
 ) -> Ran
     requires { Ready (port_of start lines store.old) lines.index mask × (store_bytes ≤ length command.old) }
     ensures store_after { ended_of result store.new ≡ handed_over (runs mask 0 lines.index (port_of start lines store.old) writes.now) }
+    ensures packets_value { result.packets ≡ packets_if (runs mask 0 lines.index (port_of start lines store.old) writes.now).packets }
     ensures command_after { command.new ≡ handed (command_of (runs mask 0 lines.index (port_of start lines store.old) writes.now)) command.old }
 {
     let r = receiver_fast::run_fast(start, lines, mask, writes, store);

@@ -1,5 +1,7 @@
+pub mod Completed
 pub mod Checks
 pub mod Examples
+pub mod Flags
 pub mod Keeps
 pub mod Pulses
 pub mod Readings

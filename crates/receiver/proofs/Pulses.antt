@@ -105,6 +105,14 @@ unfolding after_pulse pulsed when_awaiting
 low-awaiting r rel low_one e = rw e
 low-awaiting r rel low_zero e = rw e
 
+pub low_other : {p : Pulse} {b : ℕ} (r : Rx) (rel : Bool) → Low p b → (r.stage ≡ Receiving → ⊥) → after_pulse r p rel ≡ quiet r
+low_other {p} r rel l h = go r.stage refl
+  where
+    go : (t : Stage) → r.stage ≡ t → after_pulse r p rel ≡ quiet r
+    go Idle e = low-idle r rel l e
+    go Receiving e = absurd (h e)
+    go Awaiting e = low-awaiting r rel l e
+
 pub unreleased : {p : Pulse} {b : ℕ} (r : Rx) → Low p b → after_pulse r p false ≡ quiet r
 unfolding clocked
 unreleased {p} r l = go r.stage refl

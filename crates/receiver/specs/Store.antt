@@ -3,6 +3,8 @@
 -- `at_stop` is that rule. Below it stands the same in parts, by what a pulse completed, as the code goes: it files the packet, the caller
 -- takes the command from the store's front, and the store is emptied last. That the parts come to the rule is proofs/Readings.
 use Rattle.std.specs.Prelude.{ℕ, zero, suc, ◌+◌, ◌-◌, ◌*◌, ◌/◌, ◌%◌, ◌<◌, Bool, cond, List, [], ◌∷◌, take, replicate}
+use Rattle.std.specs.Prelude as code
+use Rattle.std.specs.Prelude.{None, Some}
 use Rattle.std.proofs.Math.Option.{Option, none, some}
 use Rattle.parts.specs.Parts.{store_bytes}
 use Rattle.bits.specs.Over.{over}
@@ -55,6 +57,15 @@ unfoldable pub packets_of : Done → ℕ
 packets_of Nothing = 0
 packets_of (Packet n) = 0
 packets_of (Command n) = n
+
+-- the same as the code answers it
+unfoldable pub packets_if : ℕ → code.Option ℕ
+packets_if zero = None
+packets_if (suc n) = Some (suc n)
+
+unfoldable pub number_if : code.Option ℕ → ℕ
+number_if None = 0
+number_if (Some n) = n
 
 -- what is completed has its place in the store
 abbrev pub Fits : Done → Type 0

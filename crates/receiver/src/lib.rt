@@ -11,7 +11,7 @@ ghost use Rattle.receiver.specs.Receive.{rx_of, step_of, idle, restarted, data_b
 pub mod lines;
 pub mod store;
 
-#[derive(Clone, Copy)]
+#[derive(Clone, Copy, Debug, PartialEq, Eq)]
 pub enum Stage {
     Idle,
     Receiving,
@@ -98,24 +98,23 @@ impl Receiver {
         ensures { rx_of result ≡ data_bit (rx_of self) one }
     {
         let bits = self.bits;
-        let stage = self.stage;
         if bits < 64 {
             Self {
-                stage: stage,
+                stage: self.stage,
                 expected: self.expected,
                 received: self.received,
                 bits: bits + 1,
-                lo: self.lo | (one as u64) << bits,
+                lo: self.lo | u64::from(one) << bits,
                 hi: self.hi,
             }
         } else {
             Self {
-                stage: stage,
+                stage: self.stage,
                 expected: self.expected,
                 received: self.received,
                 bits: bits + 1,
                 lo: self.lo,
-                hi: self.hi | (one as u64) << (bits - 64),
+                hi: self.hi | u64::from(one) << (bits - 64),
             }
         }
     }
@@ -124,16 +123,8 @@ impl Receiver {
     pub fn quiet(self) -> Written
         ensures { step_of result ≡ quiet (rx_of self) }
     {
-        let stage = self.stage;
         Written {
-            next: Receiver {
-                stage: stage,
-                expected: self.expected,
-                received: self.received,
-                bits: self.bits,
-                lo: self.lo,
-                hi: self.hi,
-            },
+            next: self,
             done: Done::Nothing,
         }
     }
@@ -154,7 +145,7 @@ impl Receiver {
             Written {
                 next: Receiver {
                     stage: Stage::Awaiting,
-                    expected: expected,
+                    expected,
                     received: so_far,
                     bits: 0,
                     lo: 0,
@@ -208,13 +199,8 @@ impl Receiver {
         if lines == 0 {
             return self.restart().quiet();
         }
-        if released {
-            let stage = self.stage;
-            match stage {
-                Stage::Idle => self.quiet(),
-                Stage::Receiving => self.clock(value >> 4 & 1),
-                Stage::Awaiting => self.quiet(),
-            }
+        if released && self.stage == Stage::Receiving {
+            self.clock(value >> 4 & 1)
         } else {
             self.quiet()
         }

@@ -19,8 +19,9 @@ pub fn index_after(index: u8, mask: u8, was: bool, value: u8) -> u8
     requires { index < 255 }
     ensures { result ≡ indexed index mask was value }
 {
-    if value & 0x20 == 0 {
-        return index;
+    if value & 0x20 == 0 || was {
+        index
+    } else {
+        (index + 1) & mask
     }
-    if was { index } else { (index + 1) & mask }
 }

@@ -2,7 +2,7 @@
 ghost use Rattle.std.specs.Prelude.{◌≡◌, ◌<◌, length, get_or};
 ghost use Rattle.parts.specs.Parts.{store_bytes};
 ghost use Rattle.receiver.specs.Receive.{words};
-ghost use Rattle.receiver.specs.Store.{bytes_of, appended, filed, packets_of, Fits};
+ghost use Rattle.receiver.specs.Store.{bytes_of, appended, filed, packets_of, packets_if, Fits};
 
 use crate::{Done, Written};
 
@@ -23,30 +23,27 @@ pub fn append(store: &mut [u8], n: u8, lo: u64, hi: u64)
     requires { (n < 7) × (length store.old ≡ store_bytes) }
     ensures { store.new ≡ appended store.old (words lo hi) n }
 {
-    let at = 16 * n as usize;
-    let mut i: usize = 0;
-    while i < 16 {
+    let at = 16 * usize::from(n);
+    for i in 0..16 {
         store[at + i] = byte_at(lo, hi, i);
-        i += 1;
     }
 }
 
 // What a pulse completed goes into the store, with the packet that was coming in before it. Answers the packets of a command that
-// is complete, whose bytes then stand at the store's front, or 0.
-pub fn file(w: Written, lo: u64, hi: u64, store: &mut [u8]) -> u8
+// is complete, whose bytes then stand at the store's front.
+pub fn file(w: Written, lo: u64, hi: u64, store: &mut [u8]) -> Option<u8>
     requires { Fits w.done × (length store.old ≡ store_bytes) }
-    ensures { (result ≡ packets_of w.done) × (store.new ≡ filed w.done (words lo hi) store.old) }
+    ensures { (result ≡ packets_if (packets_of w.done)) × (store.new ≡ filed w.done (words lo hi) store.old) }
 {
-    let done = w.done;
-    match done {
-        Done::Nothing => 0,
+    match w.done {
+        Done::Nothing => None,
         Done::Packet(n) => {
             append(store, n, lo, hi);
-            0
+            None
         }
         Done::Command(n) => {
             append(store, n - 1, lo, hi);
-            n
+            Some(n)
         }
     }
 }

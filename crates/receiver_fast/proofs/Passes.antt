@@ -1,16 +1,16 @@
 -- A run from one place is the run from a later one, by the pulses gathered between. And what the stage and the lines are in each way.
-use mathlib.Core.Path.{◌≡◌, refl, sym, ap, ap₂, ◌∙◌}
+use mathlib.Core.Path.{◌≡◌, sym, ap, ap₂, ◌∙◌}
 use mathlib.Core.Bool.{Bool, true}
 use mathlib.Core.List.{List}
 use Prim.Native.Nat.{ℕ, ◌+◌, ◌*◌, ◌^◌, ◌<◌, ◌≤◌}
 use native.Mathlib.Omega.{arith}
 use lib.ListN.{drop}
 use Rattle.receiver.specs.declared.Stage.{Stage}
-use Rattle.receiver.specs.declared.Stage.TheVariants.{Idle, Receiving, Awaiting}
+use Rattle.receiver.specs.declared.Stage.TheVariants.{Idle, Receiving}
 use Rattle.receiver.specs.declared.Receiver.{Receiver}
 use Rattle.receiver.specs.Port.{Port}
 use Rattle.receiver.specs.Rises.{rises}
-use Rattle.receiver.specs.Receive.{words, rx_of, Sound, stage_number}
+use Rattle.receiver.specs.Receive.{words, rx_of, Sound}
 use Rattle.receiver.proofs.Rises.{rises-small}
 use Rattle.receiver_run.specs.Run.{runs, port_of}
 use Rattle.receiver_run.specs.declared.Lines.{Lines}
@@ -21,21 +21,25 @@ use Rattle.receiver_gather.proofs.Gathers.{stack}
 use Rattle.receiver_polling.specs.Passing.{Passed}
 use Rattle.receiver_fast.specs.Fast.{released}
 
+-- the receiver with this packet of so many bits, and the joypad index x, where what was gathered ends
+abbrev pub joined : Receiver → ℕ → Gathered → ℕ → ℕ → ℕ → Fed
+joined rx x g bits lo hi =
+    record {
+      rx = record { stage = Receiving; expected = rx.expected; received = rx.received; bits = bits; lo = lo; hi = hi };
+      lines = released x;
+      at = g.at;
+    }
+
 -- a word of pulses joins a receiver that has B bits, of the value P
 module _ (mask from index idx B P : ℕ) (rx : Receiver) (ws : List ℕ) (g : Gathered) (qb ql qh : ℕ)
     (st : rx.stage ≡ Receiving) (so : Sound (rx_of rx)) (hb : rx.bits ≡ B) (hp : words rx.lo rx.hi ≡ P)
     (hi : index < 255) (hm : mask < 255) (G : Gave ws from g) (ho : idx ≡ rises g.ones index mask)
     (fit : B + g.count ≤ 128) (eb : qb ≡ B + g.count) (ew : words ql qh ≡ P + g.word * 2 ^ B) where
-  abbrev joined : Fed
-  joined =
-      record {
-        rx = record { stage = Receiving; expected = rx.expected; received = rx.received; bits = qb; lo = ql; hi = qh };
-        lines = released idx;
-        at = g.at;
-      }
+  abbrev after-join : Fed
+  after-join = joined rx idx g qb ql qh
 
   join-same : (s : List ℕ)
-      → runs mask from index (port_of rx (released index) s) (drop from ws) ≡ runs mask g.at idx (port_of joined.rx (released idx) s) (drop g.at ws)
+      → runs mask from index (port_of rx (released index) s) (drop from ws) ≡ runs mask g.at idx (port_of after-join.rx (released idx) s) (drop g.at ws)
   unfolding Feeds
   join-same s =
       let e : ℕ = rx.expected in
@@ -50,7 +54,7 @@ module _ (mask from index idx B P : ℕ) (rx : Receiver) (ws : List ℕ) (g : Ga
   not-idle : {A : Type 0} → Receiving ≡ Idle → A
   not-idle e = let z : ◌≡◌ {A = ℕ} 0 1 = cc in absurd (omega arith)
 
-  pub join : Passed mask from rx (released index) ws joined
+  pub join : Passed mask from rx (released index) ws after-join
   join =
       record {
         onto = omega (arith, G.place);
@@ -67,17 +71,6 @@ module _ (mask from index idx B P : ℕ) (rx : Receiver) (ws : List ℕ) (g : Ga
         few = rw ho (rises-small g.ones index mask hi hm);
         same = join-same;
       }
-
--- the stage by its number
-pub receives : (t : Stage) → stage_number t ≡ 1 → t ≡ Receiving
-unfolding stage_number
-receives Idle e = absurd (omega arith)
-receives Receiving e = refl
-receives Awaiting e = absurd (omega arith)
-
-pub waits : (t : Stage) → (stage_number t ≡ 1 → ⊥) → t ≡ Receiving → ⊥
-unfolding stage_number
-waits t f e = f (ap stage_number e)
 
 -- both lines high
 pub are-released : (l : Lines) → l.both ≡ true → l.p15 ≡ true → l ≡ released l.index

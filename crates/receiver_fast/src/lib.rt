@@ -5,13 +5,14 @@
 ghost use Rattle.std.specs.Prelude.{◌≡◌, ◌<◌, ◌≤◌, length};
 ghost use Rattle.receiver.specs.Receive.{rx_of, Sound};
 ghost use Rattle.receiver.specs.declared.Stage.TheVariants.{Receiving};
+ghost use Rattle.receiver.specs.Store.{packets_if};
 ghost use Rattle.receiver_run.specs.Run.{runs, port_of, ended_of, Ready};
 ghost use Rattle.receiver_polling.specs.Passing.{Passed};
 ghost use Rattle.receiver_fast.specs.Fast.{released};
 
 use bits_eight::eight;
 use receiver::store::file;
-use receiver::{Receiver, Stage, stage_number};
+use receiver::{Receiver, Stage};
 use receiver_gather::gather;
 use receiver_polling::{Fed, after, index_rises, wait};
 use receiver_run::{Lines, Ran};
@@ -19,42 +20,41 @@ use receiver_run::{Lines, Ran};
 // Runs the writes until a command completes or they end.
 pub fn run_fast(start: Receiver, lines: Lines, mask: u8, writes: &[u8], store: &mut [u8]) -> Ran
     requires { Ready (port_of start lines store.old) lines.index mask }
-    ensures { ended_of result store.new ≡ runs mask 0 lines.index (port_of start lines store.old) writes.now }
+    ensures ended { ended_of result store.new ≡ runs mask 0 lines.index (port_of start lines store.old) writes.now }
+    ensures completed { result.packets ≡ packets_if (runs mask 0 lines.index (port_of start lines store.old) writes.now).packets }
 {
     let mut rx = start;
     let mut here = lines;
     let mut i: usize = 0;
+    // Stays: the place goes on by strides, and not by one.
     while i < writes.len() {
         let f = skip(rx, here, mask, writes, i);
         if f.at > i {
-            let later = f.rx;
-            let there = f.lines;
-            rx = later;
-            here = there;
+            rx = f.rx;
+            here = f.lines;
             i = f.at;
         } else {
             let v = writes[i];
             let w = rx.write(v, here.both);
-            let n = file(w, rx.lo, rx.hi, store);
-            let next = w.next;
-            rx = next;
+            let packets = file(w, rx.lo, rx.hi, store);
+            rx = w.next;
             here = after(here, mask, v);
             i += 1;
-            if n != 0 {
+            if packets.is_some() {
                 return Ran {
-                    rx: rx,
+                    rx,
                     lines: here,
                     at: i,
-                    packets: n,
+                    packets,
                 };
             }
         }
     }
     Ran {
-        rx: rx,
+        rx,
         lines: here,
         at: i,
-        packets: 0,
+        packets: None,
     }
 }
 
@@ -64,11 +64,11 @@ fn skip(rx: Receiver, lines: Lines, mask: u8, writes: &[u8], from: usize) -> Fed
     requires { Sound (rx_of rx) × (((lines.index < 255) × (mask < 255)) × (from ≤ length writes.now)) }
     ensures { Passed mask from rx lines writes.now result }
 {
-    let stage = rx.stage;
-    if stage_number(stage) == 1 {
-        return feed_on(rx, lines, mask, writes, from);
+    if rx.stage == Stage::Receiving {
+        feed_on(rx, lines, mask, writes, from)
+    } else {
+        wait(rx, lines, mask, writes, from)
     }
-    wait(rx, lines, mask, writes, from)
 }
 
 // Where both lines are high and data pulses are in sight: a word of them.
@@ -76,17 +76,14 @@ fn feed_on(rx: Receiver, lines: Lines, mask: u8, writes: &[u8], from: usize) -> 
     requires { ((rx.stage ≡ Receiving) × Sound (rx_of rx)) × (((lines.index < 255) × (mask < 255)) × (from ≤ length writes.now)) }
     ensures { Passed mask from rx lines writes.now result }
 {
-    if lines.both {
-        if lines.p15 {
-            if in_sight(rx.bits, writes, from) {
-                return feed(rx, lines.index, mask, writes, from);
-            }
+    if lines.both && lines.p15 && in_sight(rx.bits, writes, from) {
+        feed(rx, lines.index, mask, writes, from)
+    } else {
+        Fed {
+            rx,
+            lines,
+            at: from,
         }
-    }
-    Fed {
-        rx: rx,
-        lines: lines,
-        at: from,
     }
 }
 
@@ -95,13 +92,9 @@ fn feed_on(rx: Receiver, lines: Lines, mask: u8, writes: &[u8], from: usize) -> 
 fn in_sight(bits: u8, writes: &[u8], from: usize) -> bool
     requires { from ≤ length writes.now }
 {
-    if bits & 0x3F != 0 {
-        return false;
-    }
-    if writes.len() - from < 8 {
-        return false;
-    }
-    eight(writes, from) & 0x3000300030003000 == 0x3000300030003000
+    bits & 0x3F == 0
+        && writes.len() - from >= 8
+        && eight(writes, from) & 0x3000300030003000 == 0x3000300030003000
 }
 
 // While a packet is coming in and both lines are high: a word of data pulses at once, where a word begins.
@@ -110,38 +103,26 @@ fn feed(rx: Receiver, index: u8, mask: u8, writes: &[u8], from: usize) -> Fed
     ensures { Passed mask from rx (released index) writes.now result }
 {
     let g = gather(writes, from);
-    if rx.bits == 0 {
-        return Fed {
-            rx: Receiver {
-                stage: Stage::Receiving,
-                expected: rx.expected,
-                received: rx.received,
-                bits: g.count,
-                lo: g.word,
-                hi: 0,
-            },
-            lines: released(index_rises(index, mask, g.ones as u64)),
-            at: g.at,
-        };
-    }
-    if rx.bits == 64 {
-        return Fed {
-            rx: Receiver {
-                stage: Stage::Receiving,
-                expected: rx.expected,
-                received: rx.received,
-                bits: 64 + g.count,
-                lo: rx.lo,
-                hi: g.word,
-            },
-            lines: released(index_rises(index, mask, g.ones as u64)),
-            at: g.at,
-        };
-    }
-    Fed {
-        rx: rx,
-        lines: released(index),
-        at: from,
+    let joined = |bits: u8, lo: u64, hi: u64| Fed {
+        rx: Receiver {
+            stage: Stage::Receiving,
+            expected: rx.expected,
+            received: rx.received,
+            bits,
+            lo,
+            hi,
+        },
+        lines: released(index_rises(index, mask, u64::from(g.ones))),
+        at: g.at,
+    };
+    match rx.bits {
+        0 => joined(g.count, g.word, 0),
+        64 => joined(64 + g.count, rx.lo, g.word),
+        _ => Fed {
+            rx,
+            lines: released(index),
+            at: from,
+        },
     }
 }
 
@@ -152,6 +133,6 @@ fn released(index: u8) -> Lines
     Lines {
         p15: true,
         both: true,
-        index: index,
+        index,
     }
 }

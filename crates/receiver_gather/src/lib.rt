@@ -33,6 +33,7 @@ pub fn gather(writes: &[u8], from: usize) -> Gathered
     let mut count: u8 = 0;
     let mut ones: u8 = 0;
     let mut i = from;
+    // Stays: what is counted goes on by four and the place by eight, and both are told at each way out: a `for` would count them by hand beside it.
     while count < 64 {
         let x = eight(writes, i);
         if x & 0x3000300030003000 != 0x3000300030003000 {
@@ -49,9 +50,9 @@ pub fn gather(writes: &[u8], from: usize) -> Gathered
         i += 8;
     }
     Gathered {
-        word: word,
-        count: count,
-        ones: ones,
+        word,
+        count,
+        ones,
         at: i,
     }
 }

@@ -2,7 +2,7 @@
 // joypad index that P15 steps: what a game's ordinary polling is.
 #![tactic(auto)]
 
-ghost use Rattle.std.specs.Prelude.{◌<◌, ◌≤◌, ◌≡◌, cond, length};
+ghost use Rattle.std.specs.Prelude.{◌<◌, ◌≤◌, ◌≡◌, length};
 ghost use Rattle.receiver.specs.Receive.{rx_of, Sound};
 ghost use Rattle.receiver.specs.declared.Stage.TheVariants.{Receiving};
 ghost use Rattle.receiver.specs.Rises.{rises};
@@ -41,6 +41,7 @@ fn by_eight(rx: Receiver, lines: Lines, mask: u8, writes: &[u8], from: usize) ->
     let mut both = lines.both;
     let mut n: u64 = 0;
     let mut i = from;
+    // Stays: the place goes on by eight, and is told at either way out: with a `for` it would be counted by hand beside it.
     while writes.len() - i >= 8 {
         let x = eight(writes, i);
         if (x & 0x3030303030303030) + 0x7070707070707070 & 0x8080808080808080
@@ -49,27 +50,21 @@ fn by_eight(rx: Receiver, lines: Lines, mask: u8, writes: &[u8], from: usize) ->
             break;
         }
         let high = (x & 0x2020202020202020) >> 5;
-        n += high % 255 - (high & high >> 8) % 255 - (high & one(p15));
+        n += high % 255 - (high & high >> 8) % 255 - (high & u64::from(p15));
         let last = writes[i + 7];
         p15 = p15_high(last);
         both = both_high(last);
         i += 8;
     }
     Fed {
-        rx: rx,
+        rx,
         lines: Lines {
-            p15: p15,
-            both: both,
+            p15,
+            both,
             index: index_rises(lines.index, mask, n),
         },
         at: i,
     }
-}
-
-fn one(b: bool) -> u64
-    ensures { result ≡ cond b 1 0 }
-{
-    if b { 1 } else { 0 }
 }
 
 // The writes up to the next start pulse, one by one.
@@ -78,19 +73,21 @@ fn by_one(rx: Receiver, lines: Lines, mask: u8, writes: &[u8], from: usize) -> F
     ensures { Passed mask from rx lines writes.now result }
 {
     let mut here = lines;
-    let mut i = from;
-    while i < writes.len() {
+    for i in from..writes.len() {
         let v = writes[i];
         if v & 0x30 == 0 {
-            break;
+            return Fed {
+                rx,
+                lines: here,
+                at: i,
+            };
         }
         here = after(here, mask, v);
-        i += 1;
     }
     Fed {
-        rx: rx,
+        rx,
         lines: here,
-        at: i,
+        at: writes.len(),
     }
 }
 
@@ -115,23 +112,17 @@ pub fn index_rises(index: u8, mask: u8, n: u64) -> u8
     if n == 0 {
         return index;
     }
-    if mask == 0 {
-        return 0;
+    match mask {
+        0 => 0,
+        1 => (index & 1) + (n & 1) as u8 & 1,
+        2 => index + 1 & 2,
+        3 => (index & 3) + (n & 3) as u8 & 3,
+        _ => {
+            let mut x = index;
+            for _ in 0..n {
+                x = (x + 1) & mask;
+            }
+            x
+        }
     }
-    if mask == 1 {
-        return (index & 1) + (n & 1) as u8 & 1;
-    }
-    if mask == 2 {
-        return index + 1 & 2;
-    }
-    if mask == 3 {
-        return (index & 3) + (n & 3) as u8 & 3;
-    }
-    let mut x = index;
-    let mut k: u64 = 0;
-    while k < n {
-        x = (x + 1) & mask;
-        k += 1;
-    }
-    x
 }

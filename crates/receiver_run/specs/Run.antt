@@ -6,7 +6,7 @@ use Rattle.std.proofs.Math.Option.{some}
 use Rattle.parts.specs.Parts.{store_bytes}
 use Rattle.receiver.specs.Lines.{p15_high, both_high, indexed}
 use Rattle.receiver.specs.Receive.{rx_of, Sound}
-use Rattle.receiver.specs.Store.{packets_of}
+use Rattle.receiver.specs.Store.{packets_of, number_if}
 use Rattle.receiver.specs.Port.{Port, step_at, filed_at, Heard, told, heard}
 use Rattle.receiver.specs.declared.Receiver.{Receiver}
 use Rattle.receiver_run.specs.declared.Lines.{Lines}
@@ -50,7 +50,7 @@ abbrev pub port_of : Receiver → Lines → List ℕ → Port
 port_of r l s = record { p15 = l.p15; both = l.both; rx = rx_of r; store = s }
 
 abbrev pub ended_of : Ran → List ℕ → Ended
-ended_of r s = record { port = port_of r.rx r.lines s; index = r.lines.index; at = r.at; packets = r.packets }
+ended_of r s = record { port = port_of r.rx r.lines s; index = r.lines.index; at = r.at; packets = number_if r.packets }
 
 -- what a run requires, and keeps
 pub record Ready (u : Port) (x mask : ℕ) : Type 0 where

@@ -3,6 +3,7 @@
 #![tactic(auto)]
 
 ghost use Rattle.std.specs.Prelude.{◌≡◌};
+ghost use Rattle.receiver.specs.Store.{packets_if};
 ghost use Rattle.receiver_run.specs.Run.{runs, port_of, ended_of, Ready};
 
 use receiver::Receiver;
@@ -17,54 +18,44 @@ pub struct Lines {
     pub index: u8,
 }
 
-// Where a run ended: after `at` writes, with a command of `packets` packets in the store, or with 0 at the end of the writes.
+// Where a run ended: after `at` writes, with a command of so many packets in the store, or with none at the end of the writes.
 #[derive(Clone, Copy)]
 pub struct Ran {
     pub rx: Receiver,
     pub lines: Lines,
     pub at: usize,
-    pub packets: u8,
+    pub packets: Option<u8>,
 }
 
 pub fn run(start: Receiver, lines: Lines, mask: u8, writes: &[u8], store: &mut [u8]) -> Ran
     requires { Ready (port_of start lines store.old) lines.index mask }
-    ensures { ended_of result store.new ≡ runs mask 0 lines.index (port_of start lines store.old) writes.now }
+    ensures ended { ended_of result store.new ≡ runs mask 0 lines.index (port_of start lines store.old) writes.now }
+    ensures completed { result.packets ≡ packets_if (runs mask 0 lines.index (port_of start lines store.old) writes.now).packets }
 {
     let mut rx = start;
-    let mut p15 = lines.p15;
-    let mut both = lines.both;
-    let mut index = lines.index;
-    let mut i: usize = 0;
-    while i < writes.len() {
-        let v = writes[i];
-        index = index_after(index, mask, p15, v);
-        let w = rx.write(v, both);
-        let n = file(w, rx.lo, rx.hi, store);
+    let mut here = lines;
+    for (i, v) in writes.iter().enumerate() {
+        let w = rx.write(*v, here.both);
+        let packets = file(w, rx.lo, rx.hi, store);
         rx = w.next;
-        p15 = p15_high(v);
-        both = both_high(v);
-        i += 1;
-        if n != 0 {
+        here = Lines {
+            p15: p15_high(*v),
+            both: both_high(*v),
+            index: index_after(here.index, mask, here.p15, *v),
+        };
+        if packets.is_some() {
             return Ran {
-                rx: rx,
-                lines: Lines {
-                    p15: p15,
-                    both: both,
-                    index: index,
-                },
-                at: i,
-                packets: n,
+                rx,
+                lines: here,
+                at: i + 1,
+                packets,
             };
         }
     }
     Ran {
-        rx: rx,
-        lines: Lines {
-            p15: p15,
-            both: both,
-            index: index,
-        },
-        at: i,
-        packets: 0,
+        rx,
+        lines: here,
+        at: writes.len(),
+        packets: None,
     }
 }

@@ -1,15 +1,34 @@
 -- By whether a command is complete: then its bytes go on, and the store is cleared.
-use mathlib.Core.Path.{◌∙◌}
-use native.Mathlib.Nat.{sub-zero}
-use Rattle.block_port.proofs.Steps.{none_over, one-settled, one-handed}
-use Rattle.bits.proofs.Named.{as-store_after-command_after}
+use mathlib.Core.Path.{sym, ap, ◌∙◌}
+use Prim.Native.Nat.{ℕ, ◌*◌, ◌<◌}
+use native.Mathlib.Omega.{arith}
+use lib.ListN.{replicate}
+use lib.Seq.{length-take-le}
+use Rattle.receiver.specs.Store.{number_if}
+use Rattle.block_port.specs.Bytes.{handed, taken_by, settled_by}
 use Rattle.block_port.proofs.hand_over.Goals as goal
 
-pub returns-then-packets-eq0 : goal.returns-then-packets-eq0
-returns-then-packets-eq0 c = as-store_after-command_after (none_over c.args.packets _ _ c.if-packets-eq0.true)
+pub slice_bounds-put-end : goal.slice_bounds-put-end
+unfolding number_if
+slice_bounds-put-end c =
+    let few : c.in-Some.n < 8 = rw c.in-Some.is at c.requires.0 in
+    omega (arith, c.from.ensures, c.requires.1.0)
 
-pub returns : goal.returns
-returns c =
-    let start = c in
-    let some_in = c.if-packets-eq0.false in
-    record { store_after = c.clear.ensures ∙ one-settled start.args.packets _ start.args.store.now some_in start.requires.1.0; command_after = c.put.ensures ∙ rw (c.wide-end.ensures.0, sub-zero) (one-handed start.args.packets start.args.store.now start.args.command.now some_in) }
+pub slice_bounds-put-end-in-Some : goal.slice_bounds-put-end-in-Some
+slice_bounds-put-end-in-Some c = sym (length-take-le (16 * c.from.result) c.args.store.now (slice_bounds-put-end c))
+
+pub returns-in-Some-clause-store_after : goal.returns-in-Some-clause-store_after
+unfolding settled_by
+returns-in-Some-clause-store_after c = c.clear.ensures ∙ ap (λ (n : ℕ). replicate n 0) c.requires.1.0 ∙ rw c.in-Some.is
+
+pub returns-in-Some-clause-command_after : goal.returns-in-Some-clause-command_after
+unfolding taken_by handed
+returns-in-Some-clause-command_after c = c.put.ensures ∙ rw (c.in-Some.is, c.from.ensures)
+
+pub returns-in_default-clause-store_after : goal.returns-in_default-clause-store_after
+unfolding settled_by
+returns-in_default-clause-store_after c = rw c.in_default.is
+
+pub returns-in_default-clause-command_after : goal.returns-in_default-clause-command_after
+unfolding taken_by handed
+returns-in_default-clause-command_after c = rw c.in_default.is

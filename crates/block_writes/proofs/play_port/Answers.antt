@@ -1,5 +1,6 @@
 -- The port's bytes out of the block, a run over them, and back.
 use mathlib.Core.Path.{◌∙◌, ap}
+use Rattle.receiver.specs.Store.{packets_if}
 use Rattle.receiver_run.specs.Run.{Ended}
 use Rattle.block_port.specs.Bytes.{handed}
 use Rattle.block_writes.specs.Ran.{command_of}
@@ -29,4 +30,4 @@ returns c =
     let lines = c.load_lines-lines in
     let r = c.run_on-r in
     let k = ran b start.requires.0 rx.result lines.result rx.ensures lines.ensures start.args.writes.now r.result _ r.ensures.store_after _ _ c.save_receiver.ensures c.save_lines.ensures in
-    record { at_value = k.0; packets_value = k.1.0; block_after = k.1.1; command_after = r.ensures.command_after ∙ ap (λ (e : Ended). handed (command_of e) start.args.command.now) (loaded-runs b start.requires.0 rx.result lines.result rx.ensures lines.ensures start.args.writes.now) }
+    record { at_value = k.0; packets_value = r.ensures.packets_value ∙ ap (λ (e : Ended). packets_if e.packets) (loaded-runs b start.requires.0 rx.result lines.result rx.ensures lines.ensures start.args.writes.now); block_after = k.1; command_after = r.ensures.command_after ∙ ap (λ (e : Ended). handed (command_of e) start.args.command.now) (loaded-runs b start.requires.0 rx.result lines.result rx.ensures lines.ensures start.args.writes.now) }

@@ -1,10 +1,11 @@
 -- Each turn passes eight writes more by, and counts the rises of P15 among them.
-use mathlib.Core.Path.{sym}
+use mathlib.Core.Path.{sym, ◌∙◌}
 use Prim.Native.Nat.{ℕ, ◌<◌}
 use native.Mathlib.Omega.{arith}
 use lib.Bits.{and_le_r}
 use lib.ListN.{get_or}
 use Rattle.receiver.specs.Rises.{rises}
+use Rattle.receiver.proofs.Flags.{byte_is}
 use Rattle.receiver.proofs.Rises.{rises-add}
 use Rattle.receiver_polling.proofs.Strides.{stay, then}
 use Rattle.receiver_polling.proofs.Bytes.{rose}
@@ -43,7 +44,7 @@ overflow_sub-n-in-loop-i c =
     let bytes : (j : ℕ) → get_or ws j 0 < 256 = λ (j : ℕ). (c.shared_slice_known-1.given j).fits in
     let x = c.eight-x in
     let e = enough-high i x.result ws bytes x.ensures c.loop-i.p15 in
-    rw c.one.ensures (omega arith)
+    rw (c.from.ensures ∙ byte_is c.loop-i.p15) (omega arith)
 
 pub overflow_add-n : goal.overflow_add-n
 overflow_add-n c =
@@ -54,7 +55,7 @@ overflow_add-n c =
     let at = c.loop-i in
     let e = high-count i x.result ws bytes x.ensures at.p15 in
     let few = rises-in i x.result ws bytes x.ensures at.p15 in
-    rw (c.one.ensures, e) (omega (arith, at.invariant.0.0, at.invariant.0.1, c.loop-i-test.true))
+    rw (c.from.ensures ∙ byte_is at.p15, e) (omega (arith, at.invariant.0.0, at.invariant.0.1, c.loop-i-test.true))
 
 pub overflow_add-last : goal.overflow_add-last
 overflow_add-last c = omega (arith, c.loop-i-test.true, c.loop-i.invariant.0.1)
@@ -85,7 +86,7 @@ loop-i-preserved c =
     let on = passed-eight a.mask i a.rx (record { p15 = at.p15; both = at.both; index = rises at.n a.lines.index a.mask }) ws
     (omega (arith, t)) p.0.1 at.invariant.1.few p.1.0.1 p.0.0 g in
     let e = rises-add r at.n a.lines.index a.mask in
-    rw (c.one.ensures, n) (
+    rw (c.from.ensures ∙ byte_is at.p15, n) (
       (omega (arith, at.invariant.0.0), at.invariant.0.1),
       then a.mask a.from a.rx a.lines ws _ _ at.invariant.1 (rw (c.p15_high-p15.ensures, c.both_high-both.ensures, sym e) on),
     )

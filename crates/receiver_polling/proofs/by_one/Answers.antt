@@ -1,5 +1,7 @@
 -- Each write up to the next start pulse is passed by.
+use mathlib.Core.Path.{◌≡◌}
 use native.Mathlib.Omega.{arith}
+use lib.ListN.{length}
 use Rattle.receiver_polling.proofs.Strides.{stay, then}
 use Rattle.receiver_polling.proofs.Waits.{passed-one}
 use Rattle.receiver_polling.proofs.by_one.Goals as goal
@@ -22,8 +24,8 @@ loop-i-preserved c =
     c.if-v-eq0.false in
     then a.mask a.from a.rx a.lines a.writes.now _ _ at.invariant (rw c.after-here.ensures one)
 
-pub returns-after-loop-i : goal.returns-after-loop-i
-returns-after-loop-i c = c.loop-i.invariant
+pub returns : goal.returns
+returns c = let e : length c.args.writes.now ≡ c.loop-i.i = omega (arith, c.loop-i.invariant.within) in rw e c.loop-i.invariant
 
 pub returns-then-v-eq0 : goal.returns-then-v-eq0
 returns-then-v-eq0 c = c.loop-i.invariant

@@ -1,10 +1,5 @@
-use Prim.Native.Nat.{◌-◌}
-use lib.ListN.{length}
 use Rattle.receiver_polling.specs.Passing.{Passed}
 use Rattle.receiver_polling.proofs.by_one.Given as goal
 
 abbrev pub invariant-loop-i : goal.invariant-loop-i
 invariant-loop-i l = Passed l.mask l.from l.rx l.initial.here l.writes (record { rx = l.rx; lines = l.here; at = l.i })
-
-abbrev pub decreases-loop-i : goal.decreases-loop-i
-decreases-loop-i l = length l.writes - l.i

@@ -1,95 +1,68 @@
 -- Each turn is a write of the rule, and the run goes on from there, or ends at a command.
 use mathlib.Core.Path.{◌≡◌, refl, sym, ap, ◌∙◌}
-use Prim.Native.Nat.{ℕ, ◌+◌, ◌<◌}
 use native.Mathlib.Omega.{arith}
-use lib.ListN.{length, get_or, drop_of_length-le}
-use Rattle.receiver.specs.Port.{Port, step_at}
+use Prim.Native.Nat.{ℕ}
+use lib.ListN.{length, drop_of_length-le}
+use Rattle.receiver.specs.Store.{packets_if, number_if}
 use Rattle.receiver.proofs.Sound.{has-place}
-use Rattle.receiver_run.specs.Run.{lined}
-use Rattle.receiver_run.proofs.Turns.{port, ready-lined, same-port, same_count, goes_on, ends_with, at_end}
-use Rattle.receiver.specs.Receive.{rx_of}
-use Rattle.receiver.specs.Store.{packets_of}
+use Rattle.receiver_run.specs.Run.{Ended, port_of}
+use Rattle.receiver_run.proofs.Turns.{turn-ready, turn-on, turn-ended, turn-completed, at_end}
 use Rattle.receiver_run.proofs.run.Goals as goal
 
--- A turn, when both lines are noted: u is the port before it, v its write; e says what port it leaves, n how many packets it completes.
 pub loop-i-init : goal.loop-i-init
-loop-i-init c = (omega arith, (c.requires, refl))
+loop-i-init c = (c.requires, refl)
 
-pub index_after-index-requires : goal.index_after-index-requires
-index_after-index-requires c = c.loop-i.invariant.1.0.within
+pub index_after-requires : goal.index_after-requires
+index_after-requires c = c.loop-i.invariant.0.within
 
 pub write-w-requires : goal.write-w-requires
-write-w-requires c = c.loop-i.invariant.1.0.sound
+write-w-requires c = c.loop-i.invariant.0.sound
 
-pub file-n-requires : goal.file-n-requires
-file-n-requires c =
-    let inv = c.loop-i.invariant in
-    (has-place _ _ _ _ inv.1.0.sound c.write-w.ensures, inv.1.0.long)
+pub file-packets-requires : goal.file-packets-requires
+file-packets-requires c = let v = c.loop-i.invariant.0 in
+    (has-place _ _ _ _ v.sound c.write-w.ensures, v.long)
 
-pub shape_of-store-then-n-ne0 : goal.shape_of-store-then-n-ne0
-shape_of-store-then-n-ne0 c =
+pub returns-then-is_some-clause-ended : goal.returns-then-is_some-clause-ended
+returns-then-is_some-clause-ended c =
     let at = c.loop-i in
-    let a = c.args in
-    let x = c.index_after-index in
-    let t = c.file-n in
-    let h : at.i < length a.writes.now = c.loop-i-test.true in
-    let w = c.write-w in
-    let p = c.p15_high-p15 in
-    let u : Port = port (rx_of at.rx) at.p15 at.both at.store in
-    let v : ℕ = get_or a.writes.now at.i 0 in
-    let e : port (rx_of w.result.next) p.result c.both_high-both.result t.new.store ≡ lined u v =
-    same-port w.result at.rx at.p15 at.both v t.result p.result c.both_high-both.result at.store _ w.ensures p.ensures c.both_high-both.ensures t.ensures.1 t.ensures.0 in
-    let n : t.result ≡ packets_of (step_at u v).done =
-    same_count w.result at.rx at.p15 at.both v t.result p.result c.both_high-both.result at.store _ w.ensures p.ensures c.both_high-both.ensures t.ensures.1 t.ensures.0 in
-    ap (λ (q : Port). length q.store) e ∙ (ready-lined u at.index a.mask v at.invariant.1.0).long ∙ sym c.requires.long
+    turn-ended c.write-w.result at.rx at.here _ c.args.mask at.i c.args.writes.now c.file-packets.result at.store c.file-packets.new.store _
+    at.invariant.0 c.loop-i-test.true at.invariant.1 c.write-w.ensures
+    (λ t. record { p15 = c.p15_high.ensures t; both = c.both_high.ensures t; index = c.index_after.ensures t }) c.file-packets.ensures
+    (sym c.is_some.ensures ∙ c.if-is_some.true)
 
-pub returns-then-n-ne0 : goal.returns-then-n-ne0
-returns-then-n-ne0 c =
+pub returns-then-is_some-clause-completed : goal.returns-then-is_some-clause-completed
+returns-then-is_some-clause-completed c =
     let at = c.loop-i in
-    let a = c.args in
-    let x = c.index_after-index in
-    let t = c.file-n in
-    let h : at.i < length a.writes.now = c.loop-i-test.true in
-    let w = c.write-w in
-    let p = c.p15_high-p15 in
-    let u : Port = port (rx_of at.rx) at.p15 at.both at.store in
-    let v : ℕ = get_or a.writes.now at.i 0 in
-    let e : port (rx_of w.result.next) p.result c.both_high-both.result t.new.store ≡ lined u v =
-    same-port w.result at.rx at.p15 at.both v t.result p.result c.both_high-both.result at.store _ w.ensures p.ensures c.both_high-both.ensures t.ensures.1 t.ensures.0 in
-    let n : t.result ≡ packets_of (step_at u v).done =
-    same_count w.result at.rx at.p15 at.both v t.result p.result c.both_high-both.result at.store _ w.ensures p.ensures c.both_high-both.ensures t.ensures.1 t.ensures.0 in
-    ap (λ (q : Port). record { port = q; index = x.result; at = at.i + 1; packets = t.result }) e
-    ∙ ap (λ (j : ℕ). record { port = lined u v; index = j; at = at.i + 1; packets = t.result }) x.ensures
-    ∙ ends_with a.mask at.i at.index u a.writes.now _ h at.invariant.1.1 t.result (sym n) c.if-n-ne0.true
+    turn-completed c.write-w.result at.rx at.here _ c.args.mask at.i c.args.writes.now c.file-packets.result at.store c.file-packets.new.store _
+    at.invariant.0 c.loop-i-test.true at.invariant.1 c.write-w.ensures
+    (λ t. record { p15 = c.p15_high.ensures t; both = c.both_high.ensures t; index = c.index_after.ensures t }) c.file-packets.ensures
+    (sym c.is_some.ensures ∙ c.if-is_some.true)
 
 pub loop-i-preserved : goal.loop-i-preserved
 loop-i-preserved c =
-    let at = c.loop-i in
-    let a = c.args in
-    let x = c.index_after-index in
-    let t = c.file-n in
-    let h : at.i < length a.writes.now = c.loop-i-test.true in
-    let w = c.write-w in
-    let p = c.p15_high-p15 in
-    let u : Port = port (rx_of at.rx) at.p15 at.both at.store in
-    let v : ℕ = get_or a.writes.now at.i 0 in
-    let e : port (rx_of w.result.next) p.result c.both_high-both.result t.new.store ≡ lined u v =
-    same-port w.result at.rx at.p15 at.both v t.result p.result c.both_high-both.result at.store _ w.ensures p.ensures c.both_high-both.ensures t.ensures.1 t.ensures.0 in
-    let n : t.result ≡ packets_of (step_at u v).done =
-    same_count w.result at.rx at.p15 at.both v t.result p.result c.both_high-both.result at.store _ w.ensures p.ensures c.both_high-both.ensures t.ensures.1 t.ensures.0 in
-    let z : t.result ≡ 0 = omega arith in (
-      omega arith,
-      (
-        rw (e, x.ensures) (ready-lined u at.index a.mask v at.invariant.1.0),
-        rw (e, x.ensures) (goes_on a.mask at.i at.index u a.writes.now _ h at.invariant.1.1 (sym n ∙ z)),
-      ),
+    let at = c.loop-i in (
+      turn-ready c.write-w.result at.rx at.here _ c.args.mask at.i c.args.writes.now c.file-packets.result at.store c.file-packets.new.store _
+          at.invariant.0 c.loop-i-test.true at.invariant.1 c.write-w.ensures
+          (λ t. record { p15 = c.p15_high.ensures t; both = c.both_high.ensures t; index = c.index_after.ensures t }) c.file-packets.ensures,
+      turn-on c.write-w.result at.rx at.here _ c.args.mask at.i c.args.writes.now c.file-packets.result at.store c.file-packets.new.store _
+          at.invariant.0 c.loop-i-test.true at.invariant.1 c.write-w.ensures
+          (λ t. record { p15 = c.p15_high.ensures t; both = c.both_high.ensures t; index = c.index_after.ensures t }) c.file-packets.ensures
+          (sym c.is_some.ensures ∙ c.if-is_some.false),
     )
 
-pub shape_of-store : goal.shape_of-store
-shape_of-store c = c.loop-i.invariant.1.0.long ∙ sym c.requires.long
-
-pub returns : goal.returns
-returns c =
+pub returns-clause-ended : goal.returns-clause-ended
+unfolding number_if
+returns-clause-ended c =
     let at = c.loop-i in
     let a = c.args in
-    at_end a.mask at.i at.index _ _ (rw (drop_of_length-le a.writes.now {i = at.i} (omega arith)) at at.invariant.1.1)
+    let e : length a.writes.now ≡ at.i = omega arith in
+    ap (λ (n : ℕ). record { port = port_of at.rx at.here at.store; index = at.here.index; at = n; packets = 0 }) e
+    ∙ at_end a.mask at.i at.here.index _ _ (rw (drop_of_length-le a.writes.now {i = at.i} c.loop-i-test.false) at at.invariant.1)
+
+pub returns-clause-completed : goal.returns-clause-completed
+unfolding packets_if
+returns-clause-completed c =
+    let at = c.loop-i in
+    let a = c.args in
+    ap (λ (d : Ended). packets_if d.packets)
+    (at_end a.mask at.i at.here.index _ _ (rw (drop_of_length-le a.writes.now {i = at.i} c.loop-i-test.false) at at.invariant.1))

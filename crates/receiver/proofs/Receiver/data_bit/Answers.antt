@@ -15,13 +15,15 @@ pub returns-then-bits-lt64 : goal.returns-then-bits-lt64
 unfolding data_bit
 returns-then-bits-lt64 c =
     let s = c.args.self in
-    ap (with-packet s)
-    (low_bit s.lo s.hi s.bits c.args.one c.if-bits-lt64.true c.requires.1.1 c.requires.0.clear)
+    rw c.from.ensures
+    (ap (with-packet s)
+    (low_bit s.lo s.hi s.bits c.args.one c.if-bits-lt64.true c.requires.1.1 c.requires.0.clear))
 
 pub returns-else-bits-lt64 : goal.returns-else-bits-lt64
 unfolding data_bit
 returns-else-bits-lt64 c =
     let s = c.args.self in
-    ap (with-packet s)
+    rw c.from-else-bits-lt64.ensures
+    (ap (with-packet s)
     (high_bit s.lo s.hi s.bits c.args.one c.if-bits-lt64.false c.requires.1.0 c.requires.1.1
-    c.requires.0.clear)
+    c.requires.0.clear))
