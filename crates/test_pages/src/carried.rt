@@ -4,11 +4,11 @@ ghost use Rattle.std.specs.Prelude.{◌≡◌, ◌+◌, ◌<◌, ◌≤◌, leng
 ghost use Rattle.parts.specs.Parts.{block_bytes, capture_bytes};
 ghost use Rattle.transfer.specs.Page.{page_bytes};
 
+use refusal::Refusal;
 use std::io::Stdout;
 use test_text::sent::{played, show};
-use test_text::{line, number, refused, say};
+use test_text::{line, refused};
 use transfer::page::PAGE_BYTES;
-use view::Number;
 
 pub fn examples(stdout: Stdout, block: &mut [u8])
     requires { length block.old ≡ block_bytes }
@@ -36,12 +36,8 @@ fn carried(stdout: Stdout, at: usize, low: u8, high: u8, shown: usize)
 {
     let page = two(at, low, high);
     let mut screen = [0u8; parts::CAPTURE_BYTES];
-    pages::page_screen(&page, &mut screen);
-    say(stdout, b"page byte ");
-    number(stdout, at as u64);
-    say(stdout, b", screen byte ");
-    number(stdout, shown as u64);
-    say(stdout, b": ");
+    let _ = pages::page_screen(&page, &mut screen);
+    let _ = print!(stdout; "page byte {at}, screen byte {shown}: ");
     line(stdout, &screen[shown..shown + 2]);
 }
 
@@ -75,12 +71,11 @@ fn misfit(stdout: Stdout, bytes: usize, room: usize)
     );
 }
 
-fn tell(stdout: Stdout, told: Number) {
+fn tell(stdout: Stdout, told: Result<usize, Refusal>) {
     match told {
-        Number::Refused(r) => refused(stdout, r),
-        Number::Is(n) => {
-            number(stdout, n as u64);
-            say(stdout, b" bytes\n");
+        Err(r) => refused(stdout, r),
+        Ok(n) => {
+            let _ = println!(stdout; "{n} bytes");
         }
     }
 }
@@ -98,6 +93,6 @@ fn lands(stdout: Stdout, block: &mut [u8])
     let mut screen = [0u8; parts::CAPTURE_BYTES];
     show(stdout, &screen, block, parts::SYSTEM);
     show(stdout, &screen, block, parts::SYSTEM);
-    pages::page_screen(&page, &mut screen);
+    let _ = pages::page_screen(&page, &mut screen);
     show(stdout, &screen, block, parts::SYSTEM);
 }
