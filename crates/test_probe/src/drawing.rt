@@ -7,8 +7,8 @@ ghost use Rattle.layout.specs.Valid.{Valid};
 ghost use Rattle.pages.specs.Pixels.{page_screen_left};
 ghost use Rattle.block_picture.specs.Drawn.{row_drawn, picture_drawn};
 
-use super::states::number;
-use transfer::pending::{Landed, Pending};
+use super::calls::{count, number};
+use transfer::pending::{Pending, Transfer};
 
 #[unsafe(no_mangle)]
 pub extern "C" fn probe_plane_byte(screen: &[u8], t: usize, r: usize, p: usize) -> u8
@@ -32,7 +32,7 @@ pub extern "C" fn probe_page(out: &mut [u8], screen: &[u8])
 pub extern "C" fn probe_page_screen(page: &[u8], screen: &mut [u8]) -> u32
     ensures { screen.new ≡ page_screen_left page.now screen.old }
 {
-    number(pages::page_screen(page, screen))
+    number(pages::page_screen(page, screen), count)
 }
 
 #[unsafe(no_mangle)]
@@ -73,15 +73,12 @@ pub extern "C" fn probe_screened(countdown: u8, kind: u8) -> u32 {
     let p = Pending::load(countdown, kind);
     let landed = landed_kind(p.lands());
     let left = p.fall();
-    (left.countdown() as u32) << 16 | (left.kind() as u32) << 8 | landed as u32
+    u32::from(left.countdown()) << 16 | u32::from(left.kind()) << 8 | u32::from(landed)
 }
 
 // A kind that landed, or 255.
-pub fn landed_kind(landed: Landed) -> u8 {
-    match landed {
-        Landed::Nothing => 255,
-        Landed::Page(transfer) => transfer.number(),
-    }
+pub fn landed_kind(landed: Option<Transfer>) -> u8 {
+    landed.map_or(255, |transfer| transfer.number())
 }
 
 // The length of the part, which goes into out.
@@ -130,14 +127,7 @@ pub extern "C" fn probe_border_color(
     requires tiles_len { (length tiles.now ≡ tiles_bytes) × (length map.now ≡ border_map_bytes) × (length palettes.now ≡ border_palettes_bytes) }
     requires x_bound { (x < 256) × (y < 224) }
 {
-    color_number(border::color_at(tiles, map, palettes, x, y))
-}
-
-fn color_number(c: border::BorderColor) -> u32 {
-    match c {
-        border::BorderColor::Transparent => 65536,
-        border::BorderColor::Opaque(color) => color.0 as u32,
-    }
+    border::color_at(tiles, map, palettes, x, y).map_or(65536, |color| u32::from(color.0))
 }
 
 #[unsafe(no_mangle)]
@@ -145,16 +135,12 @@ pub extern "C" fn probe_color_at(block: &[u8], x: usize, y: usize, shade: usize)
     requires block_len { length block.now ≡ block_bytes }
     requires x_bound { (x < 160) × (y < 144) × (shade < 4) }
 {
-    let in_force = block[parts::PRESET_ON] == 1;
-    let c = screen::color_at(
-        &block[parts::PALETTES..parts::MAP],
-        &block[parts::PRESET..parts::PALETTES],
-        in_force,
-        &block[parts::MAP..parts::SYSTEM],
-        x,
-        y,
-        shade,
-    );
+    let colours = screen::Colours {
+        palettes: &block[parts::PALETTES..parts::MAP],
+        preset: &block[parts::PRESET..parts::PALETTES],
+        in_force: block[parts::PRESET_ON] == 1,
+    };
+    let c = colours.color_at(&block[parts::MAP..parts::SYSTEM], x, y, shade);
     c.0
 }
 

@@ -92,18 +92,10 @@ pub extern "C" fn probe_decode(d: &[u8]) -> u16
 
 fn plain_number(c: PlainCommand) -> u16 {
     match c {
-        PlainCommand::PalPair(a, b) => {
-            if a == 0 {
-                if b == 1 {
-                    return 0x01;
-                }
-                return 0x03;
-            }
-            if a == 1 {
-                return 0x12;
-            }
-            0x23
-        }
+        PlainCommand::PalPair(0, 1) => 0x01,
+        PlainCommand::PalPair(0, _) => 0x03,
+        PlainCommand::PalPair(1, _) => 0x12,
+        PlainCommand::PalPair(_, _) => 0x23,
         PlainCommand::AttrBlk => 0x40,
         PlainCommand::AttrLin => 0x50,
         PlainCommand::AttrDiv => 0x60,

@@ -61,14 +61,14 @@ pub extern "C" fn probe_put(dst: &mut [u8], at: usize, src: &[u8])
 
 #[unsafe(no_mangle)]
 pub extern "C" fn probe_all_zero(s: &[u8]) -> u8 {
-    if bits::all_zero(s) { 1 } else { 0 }
+    u8::from(bits::all_zero(s))
 }
 
 // Red, green and blue in one number, red highest.
 #[unsafe(no_mangle)]
 pub extern "C" fn probe_rgb8(w: u16) -> u32 {
     let c = Rgb555(w).to_rgb8();
-    (c.r as u32) << 16 | (c.g as u32) << 8 | c.b as u32
+    u32::from(c.r) << 16 | u32::from(c.g) << 8 | u32::from(c.b)
 }
 
 #[unsafe(no_mangle)]
@@ -87,12 +87,12 @@ pub extern "C" fn probe_palette(w: u16) -> u16
 
 #[unsafe(no_mangle)]
 pub extern "C" fn probe_flip_x(w: u16) -> u8 {
-    if BorderMapEntry(w).flip_x() { 1 } else { 0 }
+    u8::from(BorderMapEntry(w).flip_x())
 }
 
 #[unsafe(no_mangle)]
 pub extern "C" fn probe_flip_y(w: u16) -> u8 {
-    if BorderMapEntry(w).flip_y() { 1 } else { 0 }
+    u8::from(BorderMapEntry(w).flip_y())
 }
 
 #[unsafe(no_mangle)]

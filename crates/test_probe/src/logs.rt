@@ -21,25 +21,24 @@ pub extern "C" fn probe_log(fast: u8, writes: &[u8], store: &mut [u8]) -> usize 
     let mut at: usize = 0;
     let mut total: usize = 0;
     while at < writes.len() {
-        let r = either(fast, rx, lines, &writes[at..], store);
-        let next = r.rx;
-        let after = r.lines;
-        rx = next;
-        lines = after;
+        let r = either(fast == 1, rx, lines, &writes[at..], store);
+        rx = r.rx;
+        lines = r.lines;
         at += r.at;
         if r.packets != 0 {
             total = (total + 1) & 0xFFFFFFFF;
         }
     }
-    total << 8 | bits::wide(rx.bits)
+    total << 8 | usize::from(rx.bits)
 }
 
-fn either(fast: u8, rx: Receiver, lines: Lines, writes: &[u8], store: &mut [u8]) -> Ran
+fn either(fast: bool, rx: Receiver, lines: Lines, writes: &[u8], store: &mut [u8]) -> Ran
     requires { Ready (port_of rx lines store.old) lines.index 3 }
     ensures { ended_of result store.new ≡ runs 3 0 lines.index (port_of rx lines store.old) writes.now }
 {
-    if fast == 1 {
-        return receiver_fast::run_fast(rx, lines, 3, writes, store);
+    if fast {
+        receiver_fast::run_fast(rx, lines, 3, writes, store)
+    } else {
+        receiver_run::run(rx, lines, 3, writes, store)
     }
-    receiver_run::run(rx, lines, 3, writes, store)
 }

@@ -5,7 +5,6 @@ ghost use Rattle.receiver.specs.Count.{count_of};
 ghost use Rattle.receiver.specs.Receive.{words, Sound};
 ghost use Rattle.layout.specs.Block.{stage_of};
 
-use pulses::{Conformance, Encoded};
 use receiver::store::byte_at;
 use receiver::{Receiver, Stage};
 
@@ -24,16 +23,14 @@ pub extern "C" fn probe_index(index: u8, mask: u8, was: u8, value: u8) -> u8
 }
 
 // The stage that has this number in the block (RULES 1.4).
+#[tactic(auto, unfolding(layout::specs::Block::stage_of))]
 fn stage_of(number: u8) -> Stage
     ensures { result ≡ stage_of number }
 {
-    if number == 0 {
-        return Stage::Idle;
-    }
-    if number == 1 {
-        Stage::Receiving
-    } else {
-        Stage::Awaiting
+    match number {
+        0 => Stage::Idle,
+        1 => Stage::Receiving,
+        _ => Stage::Awaiting,
     }
 }
 
@@ -46,10 +43,8 @@ fn put_receiver(rx: Receiver, next: &mut [u8])
     next[1] = rx.expected;
     next[2] = rx.received;
     next[3] = rx.bits;
-    let mut i: usize = 0;
-    while i < 16 {
+    for i in 0..16 {
         next[8 + i] = byte_at(rx.lo, rx.hi, i);
-        i += 1;
     }
 }
 
@@ -72,11 +67,11 @@ pub extern "C" fn probe_write(
 {
     let rx = Receiver {
         stage: stage_of(stage),
-        expected: expected,
-        received: received,
-        bits: bits,
-        lo: lo,
-        hi: hi,
+        expected,
+        received,
+        bits,
+        lo,
+        hi,
     };
     let w = rx.write(value, released == 1);
     put_receiver(w.next, next);
@@ -86,21 +81,11 @@ pub extern "C" fn probe_write(
 // The refusal's number (RULES 2.1), or how many writes: never below 260.
 #[unsafe(no_mangle)]
 pub extern "C" fn probe_encode(command: &[u8], out: &mut [u8]) -> usize {
-    let told = pulses::encode(command, out);
-    match told {
-        Encoded::Malformed => 5,
-        Encoded::Short => 6,
-        Encoded::Writes(n) => n,
-    }
+    pulses::encode(command, out).unwrap_or_else(|r| usize::from(r.number()))
 }
 
 // The refusal's number (RULES 2.1), 1 if the command conforms, else 0.
 #[unsafe(no_mangle)]
 pub extern "C" fn probe_verdict(command: &[u8]) -> u8 {
-    let told = pulses::verdict(command);
-    match told {
-        Conformance::Malformed => 5,
-        Conformance::Conforms => 1,
-        Conformance::Differs => 0,
-    }
+    pulses::verdict(command).map_or_else(|r| r.number(), |conforms| u8::from(conforms))
 }

@@ -1,5 +1,5 @@
 // States of the emulator into a block and out of one. (A module can't have the name of a crate that is used.)
-use refusal::Refusal;
+use super::calls::{count, number, refusal};
 use state_spans::{Spans, SpansMut};
 
 // The refusal as it is, or 0.
@@ -37,10 +37,7 @@ pub extern "C" fn probe_from_state(
         border_map,
         border_palettes,
     );
-    match state::from_state(block, &spans) {
-        Ok(()) => 0,
-        Err(r) => r.code(),
-    }
+    refusal(state::from_state(block, &spans))
 }
 
 // Which spans are there, a bit each; a refusal as 0x80000000 and its number, with 256 times its offset where it has one.
@@ -76,12 +73,5 @@ pub extern "C" fn probe_to_state(
         border_map,
         border_palettes,
     };
-    number(state::to_state(block, &mut room))
-}
-
-pub fn number(told: Result<usize, Refusal>) -> u32 {
-    match told {
-        Ok(n) => (n % 65536) as u32,
-        Err(r) => r.code() | 0x80000000,
-    }
+    number(state::to_state(block, &mut room), count)
 }
