@@ -2,6 +2,7 @@
 use Rattle.std.specs.Prelude.{ℕ, ◌/◌, ◌%◌, Bool, cond, ◌&&◌, List, [], ◌∷◌, ◌++◌, eqb, leb}
 use Rattle.view.specs.Refusal.{refusal_of}
 use Rattle.log_text.specs.Text.{lf, decimal_text}
+unfoldable pub use Rattle.log_text.specs.Text.{number_line}
 
 -- a refusal is one number: its own in the low byte, and above it the offset of the byte that breaks a rule
 abbrev pub number_in : ℕ → ℕ
@@ -17,10 +18,6 @@ placed number = leb 21 number && leb number 26
 -- `valid`
 unfoldable pub valid_line : List ℕ
 valid_line = 118 ∷ 97 ∷ 108 ∷ 105 ∷ 100 ∷ lf
-
--- as `1`
-unfoldable pub number_line : ℕ → List ℕ
-number_line number = decimal_text number ++ lf
 
 -- as `23 at 8`
 unfoldable pub placed_line : ℕ → ℕ → List ℕ

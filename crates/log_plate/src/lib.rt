@@ -93,7 +93,7 @@ fn rows(
     requires words_len { (length words.old ≡ 256) × (length out.old ≡ out_bytes) }
     ensures { Sent (is_ok result) tally.old (picture_lines (load block.now)) tally.new }
 {
-    for y in 0..224 {
+    for y in 0..224usize {
         log_chunks::row_line(block, tables, y, words, out);
         write_out(streams, tally, &out[0..1025])?;
     }
