@@ -7,14 +7,9 @@ use log_writer::Streams;
 use std::process::ExitCode;
 
 fn main(rt: HostRuntime) -> ExitCode {
-    let streams = Streams::of(&rt);
     let mut tally: u64 = 0;
     let mut saved = [0u8; check_saved::SAVED_BYTES];
     let mut line = [0u8; check_saved::LINE_BYTES];
-    let print = check_saved::check(streams, &mut tally, &mut saved, &mut line);
-    if print.whole {
-        ExitCode::SUCCESS
-    } else {
-        ExitCode::FAILURE
-    }
+    let print = check_saved::check(Streams::of(&rt), &mut tally, &mut saved, &mut line);
+    log_writer::status(print.sent)
 }

@@ -1,5 +1,5 @@
 -- More bytes than a block has are refused by 1, however many there are.
-use Rattle.std.proofs.Common.{◌≡◌, ℕ, ◌+◌, List, ◌++◌, length, length-append, ap, sym, ◌∙◌, arith}
+use Rattle.std.proofs.Common.{◌≡◌, ℕ, List, ◌++◌, length, length-append, ap, sym, ◌∙◌, arith}
 use borrow.Author.Tests.{ne_eqb}
 use Rattle.parts.specs.Parts.{block_bytes}
 use Rattle.view.specs.Refusal.{refusal_of}

@@ -7,15 +7,16 @@ use log_writer::Streams;
 use std::process::ExitCode;
 
 fn main(rt: HostRuntime) -> ExitCode {
-    let streams = Streams::of(&rt);
     let mut tally: u64 = 0;
     let mut input = [0u8; pages_drawn::INPUT_BYTES];
     let mut screen = [0u8; pages_drawn::SCREEN_BYTES];
     let mut out = [0u8; pages_drawn::FILE_BYTES];
-    let print = pages_drawn::draw(streams, &mut tally, &mut input, &mut screen, &mut out);
-    if print.whole {
-        ExitCode::SUCCESS
-    } else {
-        ExitCode::FAILURE
-    }
+    let print = pages_drawn::draw(
+        Streams::of(&rt),
+        &mut tally,
+        &mut input,
+        &mut screen,
+        &mut out,
+    );
+    log_writer::status(print.sent)
 }

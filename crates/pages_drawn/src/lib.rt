@@ -14,12 +14,11 @@ ghost use Rattle.pages_drawn.specs.Graymap.{grey_of, pixels, grey_at, graymap_of
 ghost use Rattle.pages_drawn.specs.Lent.{input_bytes, file_bytes};
 
 use bits::put;
-use file_reader::{End, Print, Read};
+use file_reader::{Print, Read, read_file};
 use log_text::number_line;
 use log_writer::{Failed, Streams, write_out};
 use screen::pair_at;
 use transfer::page::PAGE_BYTES;
-use view::Number;
 
 // What is read at most, which is one byte more than a page has; a screen; and room for a graymap, whose head has 15 bytes.
 pub const INPUT_BYTES: usize = PAGE_BYTES + 1;
@@ -38,15 +37,14 @@ pub fn draw(
 ) -> Print
     requires { (length input.old ≡ input_bytes) × ((length screen.old ≡ capture_bytes) × (length out.old ≡ file_bytes)) }
     ensures came { Came result.got result.end input.new }
-    ensures told { Told page_text result.end result.whole (take result.got input.new) tally.old tally.new }
+    ensures told { Told page_text result.end (is_ok result.sent) (take result.got input.new) tally.old tally.new }
 {
-    let read = file_reader::read_file(streams, input);
-    let whole = print(read, streams, tally, input, screen, out).is_ok();
-    let end = read.end;
+    let read = read_file(streams, input);
+    let sent = print(read, streams, tally, input, screen, out);
     Print {
         got: read.got,
-        end: end,
-        whole: whole,
+        end: read.end,
+        sent,
     }
 }
 
@@ -63,13 +61,8 @@ fn print(
     requires input_len { (length input.now ≡ input_bytes) × ((length screen.old ≡ capture_bytes) × (length out.old ≡ file_bytes)) }
     ensures { Told page_text read.end (is_ok result) (take read.got input.now) tally.old tally.new }
 {
-    let end = read.end;
-    let got = read.got;
-    match end {
-        End::Ended => tell(streams, tally, &input[0..got], screen, out),
-        End::Full => tell(streams, tally, &input[0..got], screen, out),
-        End::Failed => Err(Failed),
-    }
+    let came = read.front(input)?;
+    tell(streams, tally, came, screen, out)
 }
 
 // Writes what is due of a whole input.
@@ -94,13 +87,12 @@ fn text(came: &[u8], screen: &mut [u8], out: &mut [u8]) -> usize
     ensures upper_bound { result ≤ file_bytes }
     ensures out_after { out.new ≡ over 0 (length (page_text came.now)) (page_text came.now) out.old }
 {
-    let answer = pages::page_screen(came, screen);
-    match answer {
-        Number::Refused(no) => number_line(no.number() as u64, out, 0),
-        Number::Is(_) => {
+    match pages::page_screen(came, screen) {
+        Ok(_) => {
             graymap(screen, out);
             FILE_BYTES
         }
+        Err(refusal) => number_line(u64::from(refusal.number()), out, 0),
     }
 }
 
@@ -117,10 +109,8 @@ fn greys(screen: &[u8], out: &mut [u8])
     requires { (length screen.now ≡ capture_bytes) × (length out.old ≡ pixels) }
     ensures { out.new ≡ tab pixels (grey_at screen.now) }
 {
-    let mut k: usize = 0;
-    while k < out.len() {
+    for k in 0..out.len() {
         out[k] = grey(pair_at(screen, k));
-        k += 1;
     }
 }
 

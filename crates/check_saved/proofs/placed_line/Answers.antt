@@ -1,5 +1,4 @@
 -- Four parts, each behind the one before it.
-use borrow.Author.Rules.{rules}
 use Prim.Native.Nat.{ℕ, ◌+◌}
 use mathlib.Core.Path.{ap₂, sym, ◌∙◌}
 use native.Mathlib.Omega.{arith}

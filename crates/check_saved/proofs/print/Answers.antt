@@ -1,5 +1,5 @@
 -- By how reading ended.
-use Rattle.std.proofs.Common.{List, ℕ, Bool, false, is_ok, take, subst, sym, arith}
+use Rattle.std.proofs.Common.{List, ℕ, Bool, is_ok, take, subst, sym, arith}
 use Rattle.std.proofs.lemmas.Grind.{common_steps}
 use Rattle.log_writer.specs.Tally.{Sent}
 use Rattle.file_reader.proofs.Coming.{told_sent, told_failed}

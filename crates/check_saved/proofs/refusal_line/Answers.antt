@@ -1,5 +1,5 @@
 -- By the refusal.
-use Rattle.std.proofs.Common.{sym, ◌∙◌, arith}
+use Rattle.std.proofs.Common.{◌∙◌, arith}
 use Rattle.check_saved.proofs.Lines.{placed-told, number-told}
 use Rattle.bits.proofs.Named.{as-value-upper_bound-out_after}
 use Rattle.check_saved.proofs.refusal_line.Goals as goal

@@ -1,5 +1,4 @@
 -- The head, and the greys behind it.
-use borrow.Author.Rules.{rules}
 use Rattle.pages_drawn.specs.Graymap.{graymap_head}
 use Rattle.pages_drawn.proofs.Shades.{graymap_put}
 use Rattle.pages_drawn.proofs.graymap.Goals as goal

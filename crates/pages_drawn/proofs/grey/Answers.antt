@@ -1,5 +1,4 @@
 -- By the definition; it fits a byte.
-use borrow.Author.Rules.{rules}
 use native.Mathlib.Omega.{arith}
 use Rattle.pages_drawn.specs.Graymap.{grey_of}
 use Rattle.pages_drawn.proofs.grey.Goals as goal

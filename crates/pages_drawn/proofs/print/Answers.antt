@@ -1,30 +1,26 @@
 -- By how reading ended.
-use borrow.Author.Rules.{rules}
-use lib.ListN.{take}
-use Rattle.std.specs.Result.{is_ok}
-use Rattle.file_reader.proofs.Coming.{told-ended, told-full, told_failed}
+use Rattle.std.proofs.Common.{List, ℕ, Bool, is_ok, take, subst, sym, arith}
+use Rattle.std.proofs.lemmas.Grind.{common_steps}
+use Rattle.log_writer.specs.Tally.{Sent}
+use Rattle.file_reader.specs.Told.{Told}
+use Rattle.file_reader.proofs.Coming.{told_sent, told_failed}
 use Rattle.pages_drawn.specs.Graymap.{page_text}
 use Rattle.pages_drawn.specs.Lent.{input_bytes}
 use Rattle.pages_drawn.proofs.Texts.{however_it-goes_on}
 use Rattle.pages_drawn.proofs.print.Goals as goal
 
-pub returns-in-Ended : goal.returns-in-Ended
-returns-in-Ended c =
+pub returns-in_err-came : goal.returns-in_err-came
+returns-in_err-came c =
+    let args = c.args in
+    let came = take args.read.got args.input.now in
+    let none = told_failed page_text args.read.end came args.tally.now (sym c.in_err-came.ensures.variant) in
+    subst (λ (b : Bool). Told page_text args.read.end b came args.tally.now args.tally.now) (grind (arith, common_steps, c.from_residual.ensures)) none
+
+pub returns : goal.returns
+returns c =
     let args = c.args in
     let t = c.tell in
-    let is = c.in-Ended.is in
-    told-ended page_text args.read.got args.read.end args.input.now (is_ok t.result) args.tally.now t.new.tally t.ensures is
-
-pub returns-in-Full : goal.returns-in-Full
-returns-in-Full c =
-    let start = c in
-    let args = start.args in
-    let t = c.tell-in-Full in
-    let is = c.in-Full.is in
-    told-full page_text args.read.got args.read.end args.input.now (is_ok t.result) args.tally.now t.new.tally t.ensures
-    input_bytes start.requires.input_len.0 however_it-goes_on start.requires.came is
-
-pub returns-in-Failed : goal.returns-in-Failed
-returns-in-Failed c =
-    let args = c.args in
-    told_failed page_text args.read.end (take args.read.got args.input.now) args.tally.now c.in-Failed.is
+    let front = c.in_ok-came.ensures in
+    let sent = subst (λ (l : List ℕ). Sent (is_ok t.result) args.tally.now (page_text l) t.new.tally) front.value t.ensures in
+    told_sent page_text args.read.got args.input.now (is_ok t.result) args.tally.now t.new.tally args.read.end input_bytes c.requires.input_len.0 however_it-goes_on
+    c.requires.came (sym front.variant) sent
