@@ -40,11 +40,6 @@ pub may-long : (n : ℕ) (l : List ℕ) → may_have n (some l) ≡ true → len
 unfolding may_have
 may-long n l h = eqb-true (length l) n h
 
-pub held-flag : (t : Bool) (l : List ℕ) → is_held (lent_if t l) ≡ flag t
-unfolding is_held
-held-flag true l = refl
-held-flag false l = refl
-
 -- ---- the border
 
 module _ (p q r : Bool) (x y z : List ℕ) where
@@ -57,10 +52,6 @@ module _ (p q r : Bool) (x y z : List ℕ) where
       go true true false = refl
       go true false c = refl
       go false b c = refl
-
-  pub border-open : (p && (q && r)) ≡ false → true ≡ border_fits (lent_if p x) (lent_if q y) (lent_if r z)
-  unfolding border_fits
-  border-open e = rw (whole-bits ∙ e)
 
   pub border-lengths : (p && (q && r)) ≡ true
       → (eqb (length x) tiles_bytes && (eqb (length y) border_map_bytes && eqb (length z) border_palettes_bytes)) ≡ border_fits (lent_if p x) (lent_if q y) (lent_if r z)

@@ -30,6 +30,7 @@ pub struct Spans<'a> {
 
 impl<'a> Spans<'a> {
     // As C lends it: all spans, and which of them are there as a number of twelve bits, the first span in the least significant.
+    // Stays: C lends thirteen slices side by side, so sporedrift_from_spans takes them and its contract cites `state_lent` of them.
     pub fn lent(
         fields: &'a [u8],
         present: u16,
