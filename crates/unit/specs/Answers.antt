@@ -1,5 +1,5 @@
 -- What each result that a call here answers stands for: a refusal as one number (RULES 2.1), or the value.
-use Rattle.std.specs.Prelude.{ℕ, zero, suc, Result, Some, None}
+use Rattle.std.specs.Prelude.{ℕ, Result, Some, None}
 use Rattle.std.specs.Prelude as code
 use Rattle.std.proofs.Math.Option.{Option, none, some}
 use Rattle.pulses.specs.Answer.{Answer}
@@ -14,11 +14,6 @@ use Rattle.unit.specs.declared.Played.{Played}
 abbrev pub packets_of : code.Option ℕ → Option ℕ
 packets_of None = none
 packets_of (Some n) = some n
-
--- as the workers have them: 0 is none
-unfoldable pub packets_if : ℕ → Option ℕ
-packets_if zero = none
-packets_if (suc n) = some (suc n)
 
 -- of a write: a command of n packets is complete, or none is
 abbrev pub written_told : Result (code.Option ℕ) Refusal → Answer (Option ℕ)

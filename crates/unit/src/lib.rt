@@ -8,7 +8,7 @@ ghost use Rattle.refusal.specs.Codes.{told_by, code_or_0};
 ghost use Rattle.view.specs.Refusal.{refusal_of};
 ghost use Rattle.unit.specs.Calls.{with_room, write_answer, write_block, write_command, screen_answer, screen_block, fresh_answer, new_block, post_boot_block};
 ghost use Rattle.unit.specs.Plays.{play_answer, play_block, play_command};
-ghost use Rattle.unit.specs.Answers.{written_told, played_told, packets_of, packets_if, shown_told};
+ghost use Rattle.unit.specs.Answers.{written_told, played_told, shown_told};
 
 use refusal::Refusal;
 use transfer::pending::Transfer;
@@ -30,8 +30,7 @@ pub fn write_joypad(block: &mut [u8], value: u8, command: &mut [u8]) -> Result<O
     ensures command_after { command.new ≡ write_command block.old value command.old }
 {
     check_with_room(block, command)?;
-    let n = block_writes::write(block, value, command);
-    Ok(packets(n))
+    Ok(block_writes::write(block, value, command))
 }
 
 // Writes in a row, up to and with the first that completes a command. Of more than PLAY_MOST only so many are taken.
@@ -45,7 +44,7 @@ pub fn play(block: &mut [u8], writes: &[u8], command: &mut [u8]) -> Result<Playe
     let p = block_writes::play(block, &writes[..most], command);
     Ok(Played {
         writes: p.at,
-        packets: packets(p.packets),
+        packets: p.packets,
     })
 }
 
@@ -58,13 +57,6 @@ fn check_with_room(block: &[u8], command: &[u8]) -> Result<(), Refusal>
         return Err(Refusal::Output);
     }
     Ok(())
-}
-
-// The workers tell a command by its packets, and none by 0.
-fn packets(n: u8) -> Option<u8>
-    ensures { packets_of result ≡ packets_if n }
-{
-    if n == 0 { None } else { Some(n) }
 }
 
 // A screen: it becomes the live capture, and a transfer that is due lands. The answer is what landed.

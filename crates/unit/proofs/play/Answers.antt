@@ -1,8 +1,5 @@
 -- `unit::play` meets its contract: the refusals in their order, and else what was played of the writes that one call takes.
-use mathlib.Core.Path.{ap}
-use mathlib.Core.Option.{Option}
-use Prim.Native.Nat.{ℕ}
-use Rattle.pulses.specs.Answer.{given}
+use mathlib.Core.Path.{refl}
 use Rattle.unit.specs.Plays.{play_most, play_answer, play_block, play_command}
 use Rattle.unit.proofs.Calling.{room-passed, room-passes}
 use Rattle.unit.proofs.Playing.{most-taken, play-given}
@@ -26,4 +23,4 @@ returns c =
     let ok = room-passes start.block.now start.command.now c.in_ok-check_with_room.ensures in
     as-result_value-block_after-command_after (play-given start.block.now start.writes.now _ start.command.now _ _ _ _ _ ok.0 ok.1
     (most-taken start.writes.now _ play_most c.min-most.ensures)
-    (ap (λ (o : Option ℕ). given (record { writes = c.play-p.result.at; packets = o })) c.packets.ensures) p.at_value p.packets_value p.block_after p.command_after)
+    refl p.at_value p.packets_value p.block_after p.command_after)
