@@ -50,7 +50,7 @@ pub extern "C" fn jobs_play(block: &mut [u8], writes: &[u8], command: &mut [u8])
     requires { Valid block.old × (store_bytes ≤ length command.old) }
 {
     let p = block_writes::play(block, writes, command);
-    p.at as u64 | u64::from(p.packets) << 56
+    p.at as u64 | u64::from(p.packets.unwrap_or(0)) << 56
 }
 
 // What `replay` prints of a log, or what `plate` does where that is 1 and no line is refused; its rows go by way of the lent words. Answers

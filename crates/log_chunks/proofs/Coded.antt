@@ -5,7 +5,7 @@ use Prim.Native.Nat.{ℕ, zero, suc, ◌+◌, ◌-◌, ◌*◌, ◌≤◌, ◌<�
 use native.Mathlib.Omega.{arith}
 use lib.ListN.{length, take, drop, length-take, take-append-drop, drop_of_length-le}
 use Rattle.layout.specs.Block.{load}
-use Rattle.block_port.specs.Bytes.{packets_told, handed}
+use Rattle.block_port.specs.Bytes.{packets_some, handed}
 use Rattle.block_writes.specs.Play.{played}
 use Rattle.layout.specs.Block.{save}
 use Rattle.bits.specs.Answer.{given}
@@ -38,6 +38,7 @@ use Rattle.log_line.specs.declared.Line.TheVariants as L
 use Rattle.log_line.specs.declared.lines.Held.TheVariants as H
 use Rattle.refusal.specs.declared.Refusal.{Refusal}
 use Rattle.refusal.specs.Codes.{code_of}
+use Rattle.std.specs.Prelude as code
 use Rattle.std.specs.Prelude.{Result, Ok, Err}
 use Rattle.log_chunks.specs.declared.Desk.{Desk}
 use Rattle.log_chunks.specs.Steps.{desk, pending, told_of, ran_on, played_to, answer_of, next_line, ended_as, ended, told_by, ToldFits, goes_on, step_room, left}
@@ -46,16 +47,6 @@ use Rattle.log_chunks.specs.declared.Step.{Step}
 use Rattle.log_chunks.specs.declared.Told.{Told}
 use Rattle.log_chunks.specs.declared.Told.TheVariants.{Nothing, Command, Refused}
 use Rattle.log_chunks.proofs.Keeps.{at_most}
-
-pub told_none : (n : ℕ) → n ≡ 0 → Nothing ≡ told_of n
-unfolding told_of
-told_none zero e = refl
-told_none (suc n) e = absurd (omega arith)
-
-pub told-some : (n : ℕ) → (n ≡ 0 → ⊥) → Command n ≡ told_of n
-unfolding told_of
-told-some zero e = absurd (e refl)
-told-some (suc n) e = refl
 
 -- ---- the decoded writes
 
@@ -66,7 +57,7 @@ module _ (r : Reading) (d : Desk) (at : ℕ) where
   pub played-within : (n : ℕ) → r.from ≤ r.upto → r.upto ≤ capture_bytes → n ≡ (played (load d.block) ws).at → r.from + n ≤ capture_bytes
   played-within n h k e = let l : length ws ≤ r.upto - r.from = simp length-take (omega arith) in omega (arith, at_most (load d.block) ws)
 
-  pub played-answer : (n packets : ℕ) (t : Told) → n ≡ (played (load d.block) ws).at → packets ≡ packets_told (played (load d.block) ws).told → t ≡ told_of packets
+  pub played-answer : (n : ℕ) (packets : code.Option ℕ) (t : Told) → n ≡ (played (load d.block) ws).at → packets ≡ packets_some (played (load d.block) ws).told → t ≡ told_of packets
       → ◌≡◌ {A = Step} (record { reading = record { held = r.held; number = r.number; from = r.from + n; upto = r.upto }; at = at; told = t }) (answer_of (ran_on r d at))
   unfolding ran_on played_to pending
   played-answer n packets t e f g =

@@ -20,7 +20,7 @@ use Rattle.layout.specs.Block.{load}
 use Rattle.layout.specs.Valid.{Valid}
 use Rattle.layout.proofs.Goods.{valid-good}
 use Rattle.rules.proofs.Keeps.{WholeIf}
-use Rattle.block_port.specs.Bytes.{packets_told}
+use Rattle.block_port.specs.Bytes.{packets_some}
 use Rattle.block_writes.specs.Play.{played}
 use Rattle.log_chunks.specs.Texts.{shown}
 use Rattle.log_chunks.specs.declared.Desk.{Desk}
@@ -89,14 +89,10 @@ module _ (f : Filled) (d : Desk) (chunk out : List ℕ) (a : Step) (e : Desk) (o
       }
 
 -- a command that is told has few packets
-told-packets : (o : Option (List ℕ)) → WholeIf o → ToldFits (told_of (packets_told o))
-unfolding packets_told
-told-packets none w = unfold told_of ToldFits in tt
-told-packets (some c) w = go (length c / 16) (omega (arith, w.most))
-  where
-    go : (k : ℕ) → k < 8 → ToldFits (told_of k)
-    go zero h = unfold told_of ToldFits in tt
-    go (suc k) h = unfold told_of ToldFits in h
+told-packets : (o : Option (List ℕ)) → WholeIf o → ToldFits (told_of (packets_some o))
+unfolding packets_some told_of ToldFits
+told-packets none w = tt
+told-packets (some c) w = omega (arith, w.most)
 
 told-ended : (m : Meaning) (r : Reading) (d : Desk) (at : ℕ) → ToldFits (ended_as m r d at).told
 unfolding ended_as ToldFits

@@ -12,7 +12,7 @@ use Rattle.layout.specs.Sgb.{Sgb}
 use Rattle.layout.proofs.Goods.{valid-good, good-back}
 use Rattle.rules.specs.Write.{written, answer}
 use Rattle.rules.proofs.Keeps.{WholeIf}
-use Rattle.block_port.specs.Bytes.{handed, packets_told}
+use Rattle.block_port.specs.Bytes.{handed, packets_some}
 use Rattle.block_writes.specs.Play.{Played, stop, played}
 use Rattle.block_writes.proofs.Plays.{Kept, kept-played}
 use Rattle.log_line.specs.Lines.{marked_from, meaning_marked}
@@ -52,16 +52,11 @@ run_ends u (v ∷ vs) = go (answer u v) (run_ends (written u v) vs)
     go (some c) e = unfold stop in refl
 
 -- a command that is told stands in the buffer
-told-buffer : (o : Option (List ℕ)) (r : Reading) (command : List ℕ) → WholeIf o → told_by (told_of (packets_told o)) r (handed o command) ≡ answer_events o
-unfolding answer_events handed packets_told
-told-buffer none r command w = unfold told_of told_by in refl
-told-buffer (some c) r command w = go (length c / 16) refl
-  where
-    go : (n : ℕ) → length c / 16 ≡ n → told_by (told_of n) r (c ++ drop (length c) command) ≡ completed c ∷ []
-    go zero e = absurd (omega (arith, w.least))
-    go (suc n) e =
-        unfold told_of told_by in
-        ap (λ (l : List ℕ). completed l ∷ []) (take_at c (drop (length c) command) (16 * suc n) (omega (arith, w.packets)))
+told-buffer : (o : Option (List ℕ)) (r : Reading) (command : List ℕ) → WholeIf o → told_by (told_of (packets_some o)) r (handed o command) ≡ answer_events o
+unfolding answer_events handed packets_some told_of told_by
+told-buffer none r command w = refl
+told-buffer (some c) r command w =
+    ap (λ (l : List ℕ). completed l ∷ []) (take_at c (drop (length c) command) (16 * (length c / 16)) (omega (arith, w.packets)))
 
 -- ---- the part of a buffer that is left
 

@@ -2,14 +2,14 @@
 -- however it is cut into chunks, is proofs/Prints, `replay-prints` and `plate-prints`. A reading's steps, with every byte that is lent: a
 -- step plays the decoded writes up to the next command, or takes the chunk up to the next line's end; a fill is steps, one after the
 -- other, while there is more and room for their text.
-use Rattle.std.specs.Prelude.{ℕ, zero, suc, ◌+◌, ◌-◌, ◌*◌, ◌≤◌, ◌<◌, Bool, true, false, cond, not, ◌&&◌, List, [], ◌∷◌, ◌++◌, map, ◌≡◌, ltb, leb, length, take, drop}
+use Rattle.std.specs.Prelude.{ℕ, zero, suc, ◌+◌, ◌-◌, ◌*◌, ◌≤◌, ◌<◌, Bool, true, false, cond, not, ◌&&◌, List, [], ◌∷◌, ◌++◌, map, ◌≡◌, ltb, leb, length, take, drop, Option, Some, None}
 use Rattle.bits.specs.Over.{over}
 use Rattle.layout.specs.Block.{load, save}
 use Rattle.parts.specs.Parts.{capture_bytes, store_bytes}
 use Rattle.layout.specs.Sgb.{Sgb}
 use Rattle.layout.specs.Valid.{Valid}
 use Rattle.rules.specs.Screen.{screened}
-use Rattle.block_port.specs.Bytes.{handed, packets_told}
+use Rattle.block_port.specs.Bytes.{handed, packets_some}
 use Rattle.block_writes.specs.Play.{Played, played}
 use Rattle.log_line.specs.Line.{line_digits, Meaning, writes, screen, refused}
 use Rattle.log_line.specs.Lines.{marked_from, meaning_marked}
@@ -47,15 +47,15 @@ pub record Stepped : Type 0 where
 abbrev pub answer_of : Stepped → Step
 answer_of s = record { reading = s.reading; at = s.at; told = s.told }
 
-unfoldable pub told_of : ℕ → Told
-told_of zero = Nothing
-told_of (suc n) = Command (suc n)
+unfoldable pub told_of : Option ℕ → Told
+told_of None = Nothing
+told_of (Some n) = Command n
 
 unfoldable pub played_to : Reading → Desk → ℕ → Played → Stepped
 played_to r d at p = record {
   reading = record { held = r.held; number = r.number; from = r.from + p.at; upto = r.upto };
   at = at;
-  told = told_of (packets_told p.told);
+  told = told_of (packets_some p.told);
   desk = record { block = save p.unit; line = d.line; bytes = d.bytes; command = handed p.told d.command };
 }
 

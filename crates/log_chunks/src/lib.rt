@@ -56,6 +56,7 @@ struct Step {
 }
 
 // The reading after steps, how far the chunk is used up, the bytes of text, and whether the last step refused a line.
+// Stays: `refused` as a bool. It is no other field's flag: a refused line comes with every place, and with every size of text.
 #[derive(Clone, Copy)]
 pub struct Filled {
     pub reading: Reading,
@@ -64,12 +65,12 @@ pub struct Filled {
     pub refused: bool,
 }
 
-fn told_of(packets: u8) -> Told
+fn told_of(packets: Option<u8>) -> Told
     ensures { result ≡ told_of packets }
 {
     match packets {
-        0 => Told::Nothing,
-        n => Told::Command(n),
+        None => Told::Nothing,
+        Some(n) => Told::Command(n),
     }
 }
 

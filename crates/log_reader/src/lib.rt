@@ -27,6 +27,7 @@ pub struct Fed {
 }
 
 // After reads: how many bytes came, and whether the input has ended.
+// Stays: `ended` beside the state. A failure and a refused line come with both, and `Stands` and `Reached` take the two.
 #[derive(Clone, Copy)]
 pub struct Read {
     pub reading: Reading,
@@ -47,6 +48,7 @@ pub struct Print {
 const TURNS: u64 = 1125899906842624;
 
 // All of a log, from a fresh unit on. A proved loop has to end, and nothing says that an input does: so its turns are counted.
+// Stays: `quiet` as a bool. The definitions of specs/Read take it so: `text_of`, `Stands`, `Reached`.
 pub fn read_log(
     streams: Streams,
     tally: &mut u64,
