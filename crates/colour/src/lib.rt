@@ -26,6 +26,7 @@ const GAMMA_RAMP: [u8; 32] = [
 ];
 
 impl Rgb555 {
+    // Stays: `to_rgb8` and `from_bytes` are public calls by these names, the first also for C.
     pub fn to_rgb8(self) -> Rgb8
         ensures { result ≡ rgb8 self.0 }
     {

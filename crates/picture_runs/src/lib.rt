@@ -88,7 +88,9 @@ fn cell(attributes: &[u8], c: usize, y: usize) -> usize
     screen::pair_at(attributes, (y - 40) / 8 * 20 + (c - 6))
 }
 
-// The four kinds of run. One colour:
+// The four kinds of run.
+// Stays: a loop for each. One loop over a closure for the colour of a pixel would need four closures with these contracts beside it.
+// One colour:
 fn run_plain(out: &mut [u16], at: usize, color: Rgb555)
     requires { at + 8 ≤ length out.old }
     ensures { Painted out.new out.old at 8 (λ j. color.0) }
@@ -153,7 +155,7 @@ fn shade(s: u16, j: usize) -> usize
     requires { j < 8 }
     ensures { (result ≡ lane_shade s j) × (result < 4) }
 {
-    (s >> (14 - 2 * j) & 3) as usize
+    usize::from(s >> (14 - 2 * j) & 3)
 }
 
 // Colour k of a table.
