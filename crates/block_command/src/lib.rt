@@ -47,8 +47,7 @@ pub fn carry_out(block: &mut [u8], d: &[u8])
     requires { Valid block.old × Whole d.now }
     ensures { block.new ≡ carried_block (decode d.now) block.old }
 {
-    let c = commands::decode(d);
-    match c {
+    match commands::decode(d) {
         Command::Plain(p) => carry_plain(block, p, d),
         Command::Fixed(f) => carry_fixed(block, f, d),
     }
@@ -59,6 +58,5 @@ pub fn carry_front(block: &mut [u8], buffer: &[u8], n: u8)
     requires { Valid block.old × Whole (take (16 * n) buffer.now) × (16 * n ≤ length buffer.now) }
     ensures { block.new ≡ carried_block (decode (take (16 * n) buffer.now)) block.old }
 {
-    let end = 16 * bits::wide(n);
-    carry_out(block, &buffer[0..end]);
+    carry_out(block, &buffer[..16 * usize::from(n)]);
 }

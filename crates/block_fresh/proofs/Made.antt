@@ -6,7 +6,7 @@ use Prim.Native.Nat.{ℕ, zero, suc, ◌+◌, ◌*◌}
 use native.Mathlib.Numerals.{add-one}
 use native.Mathlib.Omega.{arith}
 use lib.Dec.{lit<}
-use lib.ListN.{length, drop, set, replicate, length-replicate, replicate-append-replicate}
+use lib.ListN.{get_or, length, drop, set, replicate, length-replicate, replicate-append-replicate}
 use lib.Seq.{drop-drop, take_at, drop_at}
 use Rattle.bits.specs.Over.{over}
 use Rattle.receiver.specs.Receive.{idle, stage_number}
@@ -31,6 +31,15 @@ sized-zeros [] = refl
 sized-zeros (n ∷ ns) = λ t. length-replicate {A = ℕ} n 0 t ∷ sized-zeros ns t
 
 -- ---- the system palettes
+
+-- a list of four is its elements
+pub four_words : (l : List ℕ) → length l ≡ 4 → l ≡ get_or l 0 0 ∷ get_or l 1 0 ∷ get_or l 2 0 ∷ get_or l 3 0 ∷ []
+four_words [] h = absurd (omega arith)
+four_words (a ∷ []) h = absurd (omega arith)
+four_words (a ∷ b ∷ []) h = absurd (omega arith)
+four_words (a ∷ b ∷ c ∷ []) h = absurd (omega arith)
+four_words (a ∷ b ∷ c ∷ d ∷ []) h = refl
+four_words (a ∷ b ∷ c ∷ d ∷ e ∷ l) h = absurd (omega arith)
 
 times_more : (n : ℕ) (p : List ℕ) → times n p ++ p ≡ times (suc n) p
 unfolding times

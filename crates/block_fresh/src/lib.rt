@@ -13,7 +13,7 @@ pub fn new(block: &mut [u8])
     ensures { block.new ≡ spec.new }
 {
     clear(block);
-    put_palette(block, parts::PRESET, 0x67BF, 0x265B, 0x10B5, 0x2866);
+    put_palette(block, parts::PRESET, [0x67BF, 0x265B, 0x10B5, 0x2866]);
     fill_system(&mut block[parts::SYSTEM..parts::FILES]);
     block[parts::PRESET_ON] = 1;
 }
@@ -32,24 +32,22 @@ fn fill_system(system: &mut [u8])
     requires { length system.old ≡ system_bytes }
     ensures { system.new ≡ spec.times 512 (spec.word_bytes (0x7FFF ∷ 0x56B5 ∷ 0x294A ∷ 0x0000 ∷ [])) }
 {
-    let mut i: usize = 0;
-    while i < 512 {
-        put_palette(system, 8 * i, 0x7FFF, 0x56B5, 0x294A, 0x0000);
-        i += 1;
+    for i in 0..512 {
+        put_palette(system, 8 * i, [0x7FFF, 0x56B5, 0x294A, 0x0000]);
     }
 }
 
 // A palette of four words, from `at` on.
-fn put_palette(bytes: &mut [u8], at: usize, c0: u16, c1: u16, c2: u16, c3: u16)
+fn put_palette(bytes: &mut [u8], at: usize, colours: [u16; 4])
     requires { at + 8 ≤ length bytes.old }
-    ensures { bytes.new ≡ over at 8 (spec.word_bytes (c0 ∷ c1 ∷ c2 ∷ c3 ∷ [])) bytes.old }
+    ensures { bytes.new ≡ over at 8 (spec.word_bytes colours) bytes.old }
 {
-    bytes[at] = low_byte(c0);
-    bytes[at + 1] = high_byte(c0);
-    bytes[at + 2] = low_byte(c1);
-    bytes[at + 3] = high_byte(c1);
-    bytes[at + 4] = low_byte(c2);
-    bytes[at + 5] = high_byte(c2);
-    bytes[at + 6] = low_byte(c3);
-    bytes[at + 7] = high_byte(c3);
+    bytes[at] = low_byte(colours[0]);
+    bytes[at + 1] = high_byte(colours[0]);
+    bytes[at + 2] = low_byte(colours[1]);
+    bytes[at + 3] = high_byte(colours[1]);
+    bytes[at + 4] = low_byte(colours[2]);
+    bytes[at + 5] = high_byte(colours[2]);
+    bytes[at + 6] = low_byte(colours[3]);
+    bytes[at + 7] = high_byte(colours[3]);
 }

@@ -18,6 +18,7 @@ pub fn half(bytes: &[u8], at: usize) -> u64
 }
 
 // The word as the eight bytes from `at` on.
+// Stays: eight stores by shifts and masks, and no `to_le_bytes`, since the leaves are so by a rule of the project.
 pub fn put_half(bytes: &mut [u8], at: usize, w: u64)
     requires { at + 8 ≤ length bytes.old }
     ensures { bytes.new ≡ over at 8 (bytes_of 8 w) bytes.old }

@@ -15,6 +15,7 @@ use parts::{
 };
 
 // The attribute commands get the packed map.
+// Stays: four functions of one line each, which one helper with a closure would not shorten.
 pub fn attr_blk(block: &mut [u8], d: &[u8])
     requires { Valid block.old × Whole d.now }
     ensures { block.new ≡ carried_block (plain (attr_blk d.now)) block.old }
