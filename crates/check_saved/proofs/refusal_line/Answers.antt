@@ -1,4 +1,5 @@
 -- By the refusal.
+use borrow.Author.Rules.{rules}
 use Rattle.std.proofs.Common.{◌∙◌, arith}
 use Rattle.check_saved.proofs.Lines.{placed-told, number-told}
 use Rattle.bits.proofs.Named.{as-value-upper_bound-out_after}
@@ -12,6 +13,6 @@ returns-in-Broken c =
 
 pub returns-in_default : goal.returns-in_default
 returns-in_default c =
-    let is = number-told c.args.refusal c.from-number.result c.in_default.not-Broken (c.from-number.ensures ∙ c.number.ensures) in
+    let is = number-told c.args.refusal c.from-number.result (search rules) (c.from-number.ensures ∙ c.number.ensures) in
     let line = c.number_line.ensures in
     as-value-upper_bound-out_after (rw is (line.value, (omega (arith, line.upper_bound), line.out_after)))
