@@ -25,7 +25,7 @@ pub extern "C" fn probe_log(fast: u8, writes: &[u8], store: &mut [u8]) -> usize 
         rx = r.rx;
         lines = r.lines;
         at += r.at;
-        if r.packets != 0 {
+        if r.packets.is_some() {
             total = (total + 1) & 0xFFFFFFFF;
         }
     }

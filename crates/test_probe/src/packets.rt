@@ -75,7 +75,7 @@ pub extern "C" fn probe_write(
     };
     let w = rx.write(value, released == 1);
     put_receiver(w.next, next);
-    receiver::store::file(w, lo, hi, store)
+    receiver::store::file(w, lo, hi, store).unwrap_or(0)
 }
 
 // The refusal's number (RULES 2.1), or how many writes: never below 260.

@@ -40,14 +40,14 @@ overflow_add-at c =
 pub overflow_add-total : goal.overflow_add-total
 overflow_add-total c = omega (arith, c.loop-at.invariant.0.1.0)
 
-pub loop-at-smaller-then-r-ne0 : goal.loop-at-smaller-then-r-ne0
-loop-at-smaller-then-r-ne0 c =
+pub loop-at-smaller-then-is_some : goal.loop-at-smaller-then-is_some
+loop-at-smaller-then-is_some c =
     let s : (0 < c.either-r.result.at) × (c.either-r.result.at ≤ length c.args.writes.now - c.loop-at.at) =
     steps c.args.writes.now c.loop-at.at c.loop-at.lines.index (port_of c.loop-at.rx c.loop-at.lines c.loop-at.store) _ c.loop-at-test.true c.either-r.ensures in
     omega (arith, s.0, s.1, c.loop-at-test.true)
 
-pub loop-at-preserved-then-r-ne0 : goal.loop-at-preserved-then-r-ne0
-loop-at-preserved-then-r-ne0 c =
+pub loop-at-preserved-then-is_some : goal.loop-at-preserved-then-is_some
+loop-at-preserved-then-is_some c =
     let s : (0 < c.either-r.result.at) × (c.either-r.result.at ≤ length c.args.writes.now - c.loop-at.at) =
     steps c.args.writes.now c.loop-at.at c.loop-at.lines.index (port_of c.loop-at.rx c.loop-at.lines c.loop-at.store) _ c.loop-at-test.true c.either-r.ensures in
     let w = c.args.writes.now in
