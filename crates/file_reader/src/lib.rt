@@ -9,6 +9,7 @@ use log_writer::{Failed, Streams, fail};
 use std::io::Read as _;
 
 // How reading ended: the input did; the buffer is full; a read failed, which has been said.
+// Stays: three ends. The definition `Told` says another thing of each, and `Came` holds of the count at each.
 #[derive(Clone, Copy, Debug, PartialEq, Eq)]
 pub enum End {
     Ended,

@@ -44,6 +44,7 @@ pub fn status(sent: Result<(), Failed>) -> ExitCode {
 
 // All that came is told; a read or a write failed, which has been said; a quiet reading came to a refused line, the one before the
 // reading's next.
+// Stays: three outcomes. A refused line is no failure, so a `Result` would count it as one.
 #[derive(Clone, Copy, Debug, PartialEq, Eq)]
 pub enum State {
     Well,
@@ -52,6 +53,7 @@ pub enum State {
 }
 
 // How it stands behind a fill: a quiet reading goes on up to a refused line, the other one while its text can be written.
+// Stays: `quiet` is a `bool`, as which the definition `ToldAs` and those of `log_reader/specs/Read` ask for it.
 pub fn told(streams: Streams, tally: &mut u64, text: &[u8], refused: bool, quiet: bool) -> State
     ensures { ToldAs quiet refused tally.old text.now result tally.new }
 {
