@@ -74,7 +74,9 @@ fn told_of(packets: Option<u8>) -> Told
     }
 }
 
-// The decoded writes, up to the next command.
+// The decoded writes, up to the next command. Not inlined: the maps that a command changes then stand on the stack only as long as it is carried
+// out, and not beneath a landing.
+#[inline(never)]
 fn play_on(reading: Reading, desk: &mut Desk, at: usize) -> Step
     requires valid { Valid desk.old.block }
     requires from_le_upto { (reading.from ≤ reading.upto) × (reading.upto ≤ capture_bytes) }
