@@ -88,6 +88,7 @@ fn refusal_line(refusal: Refusal, out: &mut [u8]) -> usize
     }
 }
 
+// Stays: the room is required, so a `write!` in place of the parts would answer an error that can't come.
 fn placed_line(number: u64, offset: u64, out: &mut [u8]) -> usize
     requires { length out.old ≡ line_bytes }
     ensures value { result ≡ length (placed_line number offset) }
