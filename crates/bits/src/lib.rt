@@ -10,6 +10,7 @@ ghost use Rattle.bits.specs.Over.{over};
 ghost use Rattle.bits.specs.Zero.{zeros};
 
 // A byte as an index: its bound stands in the contract, so that sums of bytes close by themselves.
+// Stays: its contract has the bound, on which sums of bytes rest.
 pub fn wide(b: u8) -> usize
     ensures { (result ≡ b) × (result < 256) }
 {
@@ -90,6 +91,7 @@ fn spread(x: u8) -> u8
 }
 
 // All of src into dst, from `at` on.
+// Stays: a place beside what is lent, since `over at` is what every contract of a part that is written cites.
 pub fn put(dst: &mut [u8], at: usize, src: &[u8])
     requires { at + length src.now ≤ length dst.old }
     ensures { dst.new ≡ over at (length src.now) src.now dst.old }

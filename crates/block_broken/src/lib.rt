@@ -1,6 +1,8 @@
 // Whether a block is valid, and else which rule it breaks first, and at which byte: RULES 1.12 and 1.15. The tests V1 to V6 are the crate
 // `block_valid`; here is a function for each that looks for its byte, but for V3's, which is the crate `block_broken_v3`.
 // The meaning is `Broken` in the crate `broken`, function by function.
+// Stays: that the front is there is a clause. docs/PROOFS.md names these functions over a block's bytes, as each call is lent them; a struct of them would
+// be made anew at each call.
 #![tactic(auto)]
 
 ghost use Rattle.std.specs.Prelude.{◌≡◌, cond, eqb, leb, length};

@@ -1,5 +1,7 @@
 // V3 of a block that breaks it, RULES 1.15: which byte, by what the receiver is at. All of the rules together are the crate `block_broken`.
 // The meaning is `Broken` in the crate `broken`, function by function.
+// Stays: that the front is there is a clause. docs/PROOFS.md names these functions over a block's bytes, as each call is lent them; a struct of them would
+// be made anew at each call.
 #![tactic(auto)]
 
 ghost use Rattle.std.specs.Prelude.{◌≡◌, ◌+◌, ◌*◌, length, drop};

@@ -1,6 +1,8 @@
 // A completed command carried out on the block: which command it is, and so which worker carries it out.
 // RULES 4; Rust: `dispatch_command`. The rules are `Carry` of the crate `rules`; what a command does to the block is in the crates
 // `block_plain` and `block_fixed`. Every worker requires a valid block and leaves one.
+// Stays: that the block is valid is a clause. In a struct that holds the `&mut` each worker would tell in its place that it holds the same borrow,
+// and owe the proof that `good-valid` has once.
 #![tactic(auto)]
 
 ghost use Rattle.std.specs.Prelude.{◌≡◌, ◌*◌, ◌≤◌, length, take};

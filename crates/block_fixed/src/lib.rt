@@ -1,6 +1,8 @@
 // What a fixed command does to the block: it looks at the parts that screens change, or marks what is pending there. The rules are
 // `fixedly` and `fixed_snes` of the crate `rules`; what each command computes is in the crates `palettes` and `commands`. The plain
 // commands are in the crate `block_plain`. Every worker of a command requires a valid block and leaves one.
+// Stays: that the block is valid is a clause. In a struct that holds the `&mut` each worker would tell in its place that it holds the same borrow,
+// and owe the proof that `good-valid` has once.
 #![tactic(auto)]
 
 ghost use Rattle.std.specs.Prelude.{◌≡◌, ℕ, List, length};

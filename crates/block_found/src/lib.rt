@@ -1,6 +1,8 @@
 // Looking for the byte of a block that breaks a rule: the lower of two, zeros that aren't, packet bits past the bit index. What is looked for
 // where is the crate `block_broken`; it is asked only of a block that is not valid, so that a valid one is checked as quickly as without it.
 // The meaning is `Broken` in the crate `broken`.
+// Stays: that the front is there is a clause. docs/PROOFS.md names these functions over a block's bytes, as each call is lent them; a struct of them would
+// be made anew at each call.
 #![tactic(auto)]
 
 ghost use Rattle.std.specs.Prelude.{◌≡◌, ◌+◌, ◌-◌, ◌/◌, ◌^◌, ◌<◌, ◌≤◌, leb, length};
@@ -14,6 +16,7 @@ ghost use Rattle.block_found.specs.Found.{found_told, first_set};
 use bits::all_zero;
 
 // What is found is the offset of a byte, or none where nothing is broken.
+// Stays: `holds` is what was asked, as `Asked` has it, and no choice of what to do.
 pub fn unless(holds: bool, at: u16) -> Option<u16>
     ensures { found_told result ≡ byte_of (asked at holds) }
 {

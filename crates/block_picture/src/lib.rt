@@ -1,5 +1,7 @@
 // The workers: what is drawn of a valid block (RULES 6). They refuse nothing, and each hands the block's
 // parts on to the crate that has the rule.
+// Stays: that the block is valid is a clause. docs/PROOFS.md names these workers over a block's bytes, and a struct around them would be made anew at
+// each call.
 #![tactic(auto)]
 
 ghost use Rattle.std.specs.Prelude.{◌≡◌, ◌<◌, ◌≤◌, length};

@@ -1,6 +1,8 @@
 // What a plain command does to the block: it gets its part, and what else it changes there is set. The rule is `plainly` of the crate
 // `rules`; what each command computes is in the crates `palettes` and `commands`. The fixed commands are in the crate `block_fixed`.
 // Every worker of a command requires a valid block and leaves one.
+// Stays: that the block is valid is a clause. In a struct that holds the `&mut` each worker would tell in its place that it holds the same borrow,
+// and owe the proof that `good-valid` has once.
 #![tactic(auto)]
 
 ghost use Rattle.std.specs.Prelude.{◌≡◌, ◌<◌, length};

@@ -1,5 +1,6 @@
 // The port's bytes of the block: the receiver, the two lines and the joypad index out of them and back, and a complete command from the
 // packet store into the caller's buffer. RULES 1.4, 1.5 and 3. The meaning is in specs/Bytes.
+// Stays: the block's length is a clause. Each call is lent a slice, as C lends it, and an array would be made of it anew at each call.
 #![tactic(auto)]
 
 ghost use Rattle.std.specs.Prelude.{◌≡◌, ◌≤◌, ◌<◌, length};
@@ -29,6 +30,7 @@ pub fn load_receiver(block: &[u8]) -> Receiver
 }
 
 #[tactic(auto, unfolding(layout::specs::Block::stage_of))]
+// Stays: of any number, since a block that is not valid is loaded too; `TryFrom` would refuse those past the last.
 fn stage_of(number: u8) -> Stage
     ensures { result ≡ stage_of number }
 {

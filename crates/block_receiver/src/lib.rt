@@ -1,5 +1,7 @@
 // V3 of a block, RULES 1.8: what the receiver's bytes may be at each of its stages. The other clauses are the crate `block_valid`, all of them together `block_broken`.
 // The meaning is `v3` in the crate `layout`; what it says of each stage is `Valid` in the crate `receiver`.
+// Stays: that the front is there is a clause. docs/PROOFS.md names these functions over a block's bytes, as each call is lent them; a struct of them would
+// be made anew at each call.
 #![tactic(auto)]
 
 ghost use Rattle.std.specs.Prelude.{◌≡◌, ◌^◌, ◌≤◌, ltb, length};

@@ -1,6 +1,8 @@
 // A screen on the block: it becomes the live capture, and what is pending comes nearer or lands.
 // RULES 5; Rust: `update_screen`. The rules are `Screen` of the crate `rules`; the page and the landings are
 // in the crate `transfer`. Every worker requires a valid block and leaves one.
+// Stays: that the block is valid is a clause. In a struct that holds the `&mut` each worker would tell in its place that it holds the same borrow,
+// and owe the proof that `good-valid` has once.
 #![tactic(auto)]
 
 ghost use Rattle.std.specs.Prelude.{◌≡◌, length};

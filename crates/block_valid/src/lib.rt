@@ -1,5 +1,7 @@
 // The tests that make a block valid, V1 to V6, RULES 1.6 to 1.11, each by its own name; V3 is the crate `block_receiver`.
 // The meaning is `Valid` in the crate `layout`. All of them together, and what is told where one fails, are the crate `block_broken`.
+// Stays: that the front is there is a clause. docs/PROOFS.md names these functions over a block's bytes, as each call is lent them; a struct of them would
+// be made anew at each call.
 #![tactic(auto)]
 
 ghost use Rattle.std.specs.Prelude.{◌≡◌, true, cond, length};

@@ -1,5 +1,7 @@
 // Writes on a valid block: many in a row up to the next command, or one alone. The receiver is held in locals, and goes back into the block
 // once, where a command is complete or the writes end. RULES 3.10. The meaning is `played` in specs/Play, and the rules of a write.
+// Stays: that the block is valid is a clause. In a struct that holds the `&mut` each worker would tell in its place that it holds the same borrow,
+// and owe the proof that `good-valid` has once.
 #![tactic(auto)]
 
 ghost use Rattle.std.specs.Prelude.{◌≡◌, ◌≤◌, length};
@@ -80,6 +82,7 @@ fn play_port(block: &mut [u8], writes: &[u8], command: &mut [u8]) -> Played
 }
 
 // A run, with the command that it completed handed over.
+// Stays: six parameters. Store and buffer are lent from two owners, and `Ready` and `runs` take the others one by one.
 fn run_on(
     start: Receiver,
     lines: Lines,

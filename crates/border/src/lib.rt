@@ -55,6 +55,7 @@ pub fn draws(entry: BorderMapEntry) -> bool
 }
 
 // A row or a column of a cell, as a flip has it.
+// Stays: whether it is flipped is a bit of the map word, as `flipped` takes it.
 #[tactic(auto, unfolding(crate::specs::Border::flipped))]
 pub fn flipped(flip: bool, k: usize) -> usize
     requires { k < 8 }

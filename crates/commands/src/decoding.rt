@@ -7,6 +7,7 @@ ghost use Rattle.commands.specs.Told.{told};
 use transfer::pending::Transfer;
 
 // What reads and changes nothing that screens change.
+// Stays: `Nothing` is a command as the others, which `decode` tells of most codes.
 #[derive(Clone, Copy)]
 pub enum PlainCommand {
     PalPair(usize, usize),

@@ -37,6 +37,7 @@ pub fn read_file(streams: Streams, file: &mut [u8]) -> Read
     ensures { Came result.got result.end file.new }
 {
     let mut got: usize = 0;
+    // Stays: the place goes on by what one read brought.
     while got < file.len() {
         match read_more(streams, file, got) {
             Ok(0) => {

@@ -1,4 +1,5 @@
 // Hexadecimal text: what its digits spell, and bytes spelled out. RULES 8.2 and 8.5. The meaning is in specs/Hex.
+// Stays: a place beside the lent output. What a text leaves of the rest is told by `over`, which every caller's contract cites.
 #![tactic(auto)]
 
 ghost use Rattle.std.specs.Prelude.{◌≡◌, true, ◌∷◌, [], ◌+◌, ◌*◌, ◌≤◌, ◌<◌, length};

@@ -40,6 +40,7 @@ pub struct Desk {
 const STEP_ROOM: usize = 256;
 
 // What a step has to tell: nothing, a command of so many packets that stands in the buffer, or that the line before the next is refused.
+// Stays: three cases. A refused line is no failure of the step, and a command is none of a line.
 #[derive(Clone, Copy)]
 enum Told {
     Nothing,
@@ -110,6 +111,7 @@ fn goes_on(so_far: Filled, size: usize, room: usize) -> bool
 }
 
 // The text of what a step tells, from `at` on. Answers its length.
+// Stays: a place beside the lent output, as `log_text` has it.
 fn tell(step: Step, command: &[u8], out: &mut [u8], at: usize) -> usize
     requires told_fits { ToldFits step.told × ((store_bytes ≤ length command.now) × (1 ≤ step.reading.number)) }
     requires step_room_in_bounds { at + step_room ≤ length out.old }
@@ -224,6 +226,7 @@ fn is_refused(step: Step) -> bool
 
 // Steps, one after the other, with their texts together at the front of `out`: up to a refused line, while the next text has room, and
 // while anything is left of the chunk or of its last line's writes.
+// Stays: `from` is a place in the chunk, from which this fill goes on.
 pub fn fill(start: Reading, desk: &mut Desk, chunk: &[u8], from: usize, out: &mut [u8]) -> Filled
     requires fit { Fit start desk.old }
     requires chunk_bound { (start.number + length chunk.now < most64 + from) × ((from ≤ length chunk.now) × (length chunk.now < most64)) }
@@ -252,6 +255,7 @@ pub fn head_line(block: &[u8], out: &mut [u8]) -> usize
 }
 
 // A row of the picture as `plate` prints it, at the front of `out`, from the tables of the block's picture.
+// Stays: that the block is valid is a clause, as in `block_picture`.
 pub fn row_line(block: &[u8], tables: &PictureTables, y: usize, words: &mut [u16], out: &mut [u8])
     requires valid { Valid block.now × (y < 224) }
     requires tables_of { TablesOf (parts_of (load block.now)) tables.now.spreads tables.now.border tables.now.game }

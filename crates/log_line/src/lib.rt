@@ -16,6 +16,7 @@ pub mod lines;
 pub const LINE_DIGITS: usize = 2 * (1 + CAPTURE_BYTES);
 
 // What a line is: so many writes; or a screen.
+// Stays: no `Option`. A screen is as much a line as writes are.
 #[derive(Clone, Copy, Debug, PartialEq, Eq)]
 pub enum Line {
     Writes(usize),

@@ -8,6 +8,7 @@ use crate::LINE_DIGITS;
 use bits::put;
 
 // How much of the present line is held in the line's buffer; or that it is longer than any line that means something.
+// Stays: no `Option`. A line that is too long is not a missing one: it will be refused.
 #[derive(Clone, Copy, Debug, PartialEq, Eq)]
 pub enum Held {
     Bytes(usize),
@@ -22,6 +23,7 @@ pub struct Taken {
 }
 
 // Takes the chunk's bytes from `at` up to the next LF onto the line that is held.
+// Stays: `at` is a place in the chunk, where the last step stopped.
 pub fn split(held: Held, line: &mut [u8], chunk: &[u8], at: usize) -> Taken
     requires line_len { length line.old ≡ line_digits }
     requires size_le_line_digits { held_size held ≤ line_digits }

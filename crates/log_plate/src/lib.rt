@@ -1,5 +1,7 @@
 // All that the program `plate` prints of a log: the picture at its end, or the first refused line alone.
 // The reading is in `log_reader`, the writing in `log_writer`.
+// Stays: that the block is valid is a clause. docs/PROOFS.md names these workers over a block's bytes, and a struct around them would be made anew at
+// each call.
 #![tactic(auto)]
 
 ghost use Rattle.std.specs.Prelude.{List, ◌≡◌, ℕ, ◌-◌, ◌≤◌, length, is_ok};
@@ -80,6 +82,7 @@ fn picture(streams: Streams, tally: &mut u64, block: &[u8], out: &mut [u8]) -> R
     rows(streams, tally, block, &tables, &mut words, out)
 }
 
+// Stays: six parameters. Streams and tally go on to `log_writer`, and the others are lent for each row.
 fn rows(
     streams: Streams,
     tally: &mut u64,

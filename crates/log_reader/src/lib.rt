@@ -37,6 +37,7 @@ pub struct Read {
 }
 
 // What a program printed: how many bytes of the input came, whether that was all of it, and whether all that is due was written.
+// Stays: `ended` as a bool, as the definition `Printed` takes it.
 #[derive(Clone, Copy)]
 pub struct Print {
     pub got: u64,
@@ -84,6 +85,7 @@ pub fn read_log(
 }
 
 // Reads once, and feeds what came.
+// Stays: `quiet`, and streams and tally beside the desk: they go on to `log_writer`, where no desk is known.
 fn turn(
     start: Read,
     streams: Streams,
@@ -123,6 +125,7 @@ fn turn(
 }
 
 // The input has ended: a last line that lacks its LF gets it.
+// Stays: as `turn`.
 fn finish(
     start: Read,
     streams: Streams,
@@ -148,6 +151,7 @@ fn finish(
 }
 
 // What a chunk of the input gives.
+// Stays: as `turn`.
 fn feed(
     start: Reading,
     streams: Streams,

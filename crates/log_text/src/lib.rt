@@ -1,5 +1,6 @@
 // The lines that the programs print, a command, a number, a refused line, a row of the picture; and a number in decimal. RULES 8.5 to 8.8.
 // Nothing here writes to anywhere but the lent text; the meaning is in specs/Text.
+// Stays: a place beside the lent output. What a text leaves of the rest is told by `over`, which every caller's contract cites.
 #![tactic(auto)]
 
 ghost use Rattle.std.specs.Prelude.{◌≡◌, ◌+◌, ◌*◌, ◌≤◌, length};

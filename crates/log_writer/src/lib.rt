@@ -79,6 +79,7 @@ fn hand_over(output: Stdout, tally: &mut u64, text: &[u8]) -> io::Result<()>
     ensures { Sent (is_ok result) tally.old text.now tally.new }
 {
     let mut done: usize = 0;
+    // Stays: the place goes on by what one write took.
     while done < text.len() {
         let n = put(output, tally, &text[done..])?;
         if n == 0 {

@@ -102,6 +102,7 @@ fn lay_four(page: &[u8], screen: &mut [u8], o: usize, i: usize)
 }
 
 // Shade 0 in n bytes from `at` on.
+// Stays: a place beside the lent screen, as `Painted` tells what is left of the rest.
 fn blank(screen: &mut [u8], at: usize, n: usize)
     requires { at + n ≤ length screen.old }
     ensures { Painted screen.new screen.old at n (λ i. 0) }

@@ -49,6 +49,7 @@ pub fn draw(
 }
 
 // By how reading ended.
+// Stays: six parameters. Streams and tally go on to `log_writer`, and each buffer has a length of its own.
 fn print(
     read: Read,
     streams: Streams,

@@ -40,6 +40,7 @@ pub fn picture(out: &mut [u16], parts: &PictureParts, tables: &PictureTables)
 }
 
 // Row y, run by run, written from `at` on.
+// Stays: a place beside the lent output, as `Painted` tells what is left of the rest.
 pub fn row(out: &mut [u16], at: usize, parts: &PictureParts, tables: &PictureTables, y: usize)
     requires tables { Tables tables.now.spreads tables.now.border tables.now.game }
     requires at_in_bounds { (at + 256 ≤ length out.old) × (y < 224) }

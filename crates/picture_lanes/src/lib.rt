@@ -41,6 +41,7 @@ pub fn indices(tiles: &[u8], spreads: &[u32], entry: BorderMapEntry, y: usize) -
 }
 
 // Those of a tile's row, from the right if it is flipped. The planes' lanes don't meet, so a sum puts them together.
+// Stays: `right` is a bit of the map word, and half of the table; `flipped` takes it so.
 fn indices_in(tile: &[u8], spreads: &[u32], row: usize, right: bool) -> u32
     requires tile_len { (length tile.now ≡ 32) × (row < 8) }
     requires spreads_value { spreads.now ≡ tab 512 spread_of }
@@ -55,6 +56,7 @@ fn indices_in(tile: &[u8], spreads: &[u32], row: usize, right: bool) -> u32
 }
 
 // A plane byte's eight bits.
+// Stays: `right` as in `indices_in`.
 fn spread_at(spreads: &[u32], right: bool, b: u8) -> u32
     requires { spreads.now ≡ tab 512 spread_of }
     ensures { (result ≡ plane_lanes right b) × (result ≤ 286331153) }

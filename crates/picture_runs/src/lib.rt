@@ -16,6 +16,7 @@ use colour::{BorderMapEntry, Rgb555};
 pub mod drawing;
 
 // The run at border column c of row y, written from `at` on.
+// Stays: a place beside the lent output, as `Painted` tells what is left of the rest; place, column and row are three numbers.
 pub fn run(
     out: &mut [u16],
     at: usize,

@@ -30,6 +30,7 @@ pub struct Receiver {
 }
 
 // What a pulse completes: nothing; a packet, for this place of the store; or a command of this many packets, the last at hand.
+// Stays: three cases. A packet that waits in the store is neither nothing nor a command.
 #[derive(Clone, Copy)]
 pub enum Done {
     Nothing,
@@ -53,6 +54,7 @@ pub fn packet_count(first: u8) -> u8
 }
 
 // The stage by its number in the block (RULES 1.4).
+// Stays: its contract says which number, where a conversion by `From` says it by a ghost member alone, and the runs against the Rust call it by this name.
 pub fn stage_number(stage: Stage) -> u8
     ensures { result ≡ stage_number stage }
 {

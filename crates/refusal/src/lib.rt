@@ -33,6 +33,7 @@ pub enum Refusal {
 }
 
 impl Rule {
+    // Stays: a name that says which number; a conversion by `From` would not.
     fn number(self) -> u8
         ensures { result ≡ rule_number self }
     {
@@ -55,6 +56,7 @@ impl Refusal {
         u32::from(self.number()) + 256 * self.offset() as u32
     }
 
+    // Stays: `number` and `offset` are public calls by these names.
     pub fn number(self) -> u8
         ensures { result ≡ code_of self % 256 }
     {

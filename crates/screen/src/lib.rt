@@ -24,6 +24,7 @@ pub fn displayed_screen<'a>(live: &'a [u8], frozen: &'a [u8], mode: u8) -> &'a [
 }
 
 // What a screen's colours come from: four palettes, and the preset, which stands for all four while it is in force.
+// Stays: the flag beside the preset, as `backdrop_of` and `colour_at` take both.
 #[derive(Clone, Copy)]
 pub struct Colours<'a> {
     pub palettes: &'a [u8],

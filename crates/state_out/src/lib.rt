@@ -1,5 +1,6 @@
 // A block that goes out as a state of the emulator, step by step (RULES 11.6): the room that is lent, and the spans group by group. The call that
 // refuses is the crate `state`. The meaning is `Going` in `state_spans`.
+// Stays: the block's length is a clause. Each call is lent a slice, as C lends it, and an array would be made of it anew at each call.
 #![tactic(auto)]
 
 ghost use Rattle.std.specs.Prelude.{◌≡◌, true, cond, ◌≤◌, length};

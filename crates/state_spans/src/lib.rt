@@ -68,6 +68,7 @@ impl<'a> Spans<'a> {
 }
 
 // Span k, where its bit is set.
+// Stays: for C a span is there by its bit, and so `span_if` of the definitions has it.
 fn span_if(present: u16, k: u16, span: &[u8]) -> Option<&[u8]>
     requires { k < 16 }
     ensures { span_told result ≡ span_if k present span.now }

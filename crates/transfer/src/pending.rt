@@ -12,6 +12,7 @@ pub enum Transfer {
     BorderMap,
 }
 
+// Stays: the enum with the transfer inside is a form that was asked for (docs/DECISIONS.md).
 #[derive(Clone, Copy, Debug, PartialEq, Eq)]
 pub enum Pending {
     Nothing,
