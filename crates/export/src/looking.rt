@@ -66,6 +66,7 @@ pub extern "C" fn sporedrift_to_rgb8(word: u16) -> u32
     of_rgb(Rgb555(word).to_rgb8())
 }
 
+// Stays: a number for C, of which `From` would not say the order of the channels.
 fn of_rgb(c: Rgb8) -> u32
     ensures { result ≡ value (rgb_number c) }
 {

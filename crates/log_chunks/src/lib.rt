@@ -126,6 +126,7 @@ fn tell(step: Step, command: &[u8], out: &mut [u8], at: usize) -> usize
     }
 }
 
+// Stays: a place beside the lent output, as `log_text` has it.
 fn tell_command(n: u8, command: &[u8], out: &mut [u8], at: usize) -> usize
     requires n_bound { (n < 8) × (store_bytes ≤ length command.now) }
     requires step_room_in_bounds { at + step_room ≤ length out.old }

@@ -1,5 +1,6 @@
 // A run: eight pixels of a row of the picture, those of one border cell. Colours come from tables made beforehand, in which a transparent
 // border pixel already has the backdrop, so that no branch follows the pixels.
+// Stays: a place beside the lent output, as `Painted` tells what is left of the rest; in `run_both` lanes and tables stand for two pictures.
 #![tactic(auto)]
 
 ghost use Rattle.std.specs.Prelude.{◌≡◌, ◌<◌, ◌≤◌, ◌+◌, ◌-◌, ◌*◌, ◌/◌, cond, eqb, length, get_or};

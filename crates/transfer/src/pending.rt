@@ -61,6 +61,7 @@ impl TryFrom<u8> for Transfer {
 
 impl Pending {
     // From bytes 10 and 11 of the block. No countdown, or a number that names no kind, is nothing.
+    // Stays: of two bytes, where `From` takes one value.
     #[tactic(auto, unfolding(crate::specs::Pending::pending_of))]
     pub fn load(countdown: u8, kind: u8) -> Pending
         ensures { result ≡ pending_of countdown kind }
