@@ -16,6 +16,7 @@ use block_found::{at_most, bits_past, lower, set_in, unless, zero_at};
 use receiver::packet_count;
 
 // An idle receiver.
+// Stays: a function for each part of the rule, as `Broken` has them one by one; they differ in which bytes are asked, and not in a number.
 fn resting(block: &[u8]) -> Option<u16>
     requires { Fronted block.now }
     ensures { found_told result ≡ spec.lowest (spec.resting block.now) }

@@ -79,6 +79,7 @@ fn change_map<F: Fn(&mut [u8], &[u8])>(block: &mut [u8], change: F)
 }
 
 // PAL_SET's file, if bit 7 asks for one.
+// Stays: beside `attr_set_file`. What they share is `change_map`; the closure of each owes the clauses of its own definition.
 fn pal_set_file(block: &mut [u8], flags: u8)
     requires { Valid block.old }
     ensures { block.new ≡ changed_block (λ s g. with_map (pal_set_map flags s.files g.map) g) block.old }

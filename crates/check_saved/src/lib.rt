@@ -36,6 +36,7 @@ pub fn check(streams: Streams, tally: &mut u64, saved: &mut [u8], out: &mut [u8]
 }
 
 // By how reading ended.
+// Stays: beside `print` of `pages_drawn`: what they share is `Read::front`, and each tells by its own text.
 fn print(
     read: Read,
     streams: Streams,

@@ -15,6 +15,7 @@ use log_chunks::Desk;
 use log_reader::Print;
 use log_writer::{Failed, Streams};
 
+// Stays: beside `log_plate::plate`, with the same buffers: docs/PROOFS.md has a contract of each.
 pub fn replay(
     streams: Streams,
     tally: &mut u64,

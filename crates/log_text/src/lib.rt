@@ -11,6 +11,7 @@ use bits::{high_byte, low_byte, put};
 use hex_digits::{spell, spell_byte};
 
 // Bytes in upper-case hexadecimal, and LF, from `at` on. Answers the text's length.
+// Stays: a call for each kind of line. They share `decimal` and `spell`; each contract names its own definition of the text.
 pub fn command_line(command: &[u8], out: &mut [u8], at: usize) -> usize
     requires { at + 2 * length command.now + 1 ≤ length out.old }
     ensures value { result ≡ length (hex_line command.now) }

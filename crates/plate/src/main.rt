@@ -1,6 +1,7 @@
 // `plate`: a log on standard input; the picture at its end on standard output, 224 lines of 256 words, or the first refused line alone.
 // What is printed stands in the contract of `log_plate::plate`; here are the buffers that it is lent, and the exit status, 1 where
 // a read or a write failed.
+// Stays: the two mains of the log differ in the call alone; a function that takes it as a closure would owe `main`'s buffers their contract.
 #![tactic(auto)]
 
 use log_chunks::Desk;

@@ -1,6 +1,7 @@
 // `replay`: a log on standard input; its commands, its refused lines and the block's first 13 bytes on standard output.
 // What is printed stands in the contract of `log_replay::replay`; here are the buffers that it is lent, and the exit status, 1 where
 // a read or a write failed.
+// Stays: the two mains of the log differ in the call alone; a function that takes it as a closure would owe `main`'s buffers their contract.
 #![tactic(auto)]
 
 use log_chunks::Desk;

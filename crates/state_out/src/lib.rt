@@ -60,6 +60,7 @@ pub fn roomy(room: &SpansMut) -> bool
 // ---- the spans
 
 // Fields, current packet, the packets that are in, and the preset if it is in force.
+// Stays: the slices of one group; by groups no other field has to be told to stay as it was.
 fn lay_front(
     block: &[u8],
     fields: &mut [u8],

@@ -72,6 +72,7 @@ pub fn update_screen(block: &mut [u8], screen: &[u8]) -> Result<Option<Transfer>
 }
 
 // The fresh blocks refuse a block of another length, and ask nothing else of what it held.
+// Stays: `new` and `post_boot` are two public calls, also for C, and differ in the worker that they ask.
 pub fn new(block: &mut [u8]) -> Result<(), Refusal>
     ensures value { code_or_0 result ≡ fresh_answer block.old }
     ensures block_after { block.new ≡ new_block block.old }
