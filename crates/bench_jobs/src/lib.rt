@@ -81,6 +81,7 @@ fn read_log(input: &[u8], desk: &mut Desk, text: &mut [u8], prints: Prints) -> u
     let mut reading = log_reading::begin();
     let mut at: usize = 0;
     let mut n: usize = 0;
+    // Stays: a `for` is no plainer, since a turn takes as many bytes as its fill took, and nothing is counted by one.
     'chunks: while goes_on(reading, input.len(), at, text.len() - n) {
         let end = at + chunk_size(input.len() - at);
         let f = log_chunks::fill(

@@ -20,6 +20,7 @@ pub extern "C" fn probe_log(fast: u8, writes: &[u8], store: &mut [u8]) -> usize 
     };
     let mut at: usize = 0;
     let mut total: usize = 0;
+    // Stays: a `for` is no plainer, since a turn takes as many writes as its run took, and nothing is counted by one.
     while at < writes.len() {
         let r = either(fast == 1, rx, lines, &writes[at..], store);
         rx = r.rx;
