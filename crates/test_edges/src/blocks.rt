@@ -1,14 +1,12 @@
 // Saved blocks that break a rule: a line each with the first that is broken and the lowest byte that breaks it, RULES 1.15; 0 where none is.
 // Each is a fresh block with one byte or two of another value.
-ghost use Rattle.std.specs.Prelude.{◌≡◌, ◌<◌, length};
+ghost use Rattle.std.specs.Prelude.{◌<◌};
 ghost use Rattle.parts.specs.Parts.{block_bytes};
 
 use std::io::Stdout;
 use test_text::checked;
 
-pub fn examples(stdout: Stdout, block: &mut [u8])
-    requires { length block.old ≡ block_bytes }
-{
+pub fn examples(stdout: Stdout, block: &mut [u8; parts::BLOCK]) {
     let _ = unit::post_boot(block);
     header(stdout, block);
     idle(stdout, block);
@@ -18,10 +16,7 @@ pub fn examples(stdout: Stdout, block: &mut [u8])
 }
 
 // V1 and V2.
-fn header(stdout: Stdout, block: &mut [u8])
-    requires { length block.old ≡ block_bytes }
-    ensures { length block.new ≡ block_bytes }
-{
+fn header(stdout: Stdout, block: &mut [u8; parts::BLOCK]) {
     damaged(stdout, block, parts::MASK, 4);
     damaged(stdout, block, parts::INDEX, 1);
     damaged(stdout, block, parts::PADS, 4);
@@ -31,20 +26,14 @@ fn header(stdout: Stdout, block: &mut [u8])
 }
 
 // V3 of an idle receiver, and of one that is none.
-fn idle(stdout: Stdout, block: &mut [u8])
-    requires { length block.old ≡ block_bytes }
-    ensures { length block.new ≡ block_bytes }
-{
+fn idle(stdout: Stdout, block: &mut [u8; parts::BLOCK]) {
     damaged(stdout, block, parts::STAGE, 3);
     damaged(stdout, block, parts::BITS, 1);
     damaged(stdout, block, parts::PRESET - 1, 1);
 }
 
 // V4 to V6; of the live capture nothing is asked.
-fn parts_behind(stdout: Stdout, block: &mut [u8])
-    requires { length block.old ≡ block_bytes }
-    ensures { length block.new ≡ block_bytes }
-{
+fn parts_behind(stdout: Stdout, block: &mut [u8; parts::BLOCK]) {
     damaged(stdout, block, parts::COUNTDOWN, 4);
     damaged(stdout, block, parts::KIND, 1);
     damaged(stdout, block, parts::PRESET_ON, 0);
@@ -54,10 +43,7 @@ fn parts_behind(stdout: Stdout, block: &mut [u8])
 }
 
 // V3 while a packet is coming in, 12 bits of it.
-fn receiving(stdout: Stdout, block: &mut [u8])
-    requires { length block.old ≡ block_bytes }
-    ensures { length block.new ≡ block_bytes }
-{
+fn receiving(stdout: Stdout, block: &mut [u8; parts::BLOCK]) {
     set(block, parts::STAGE, 1);
     damaged(stdout, block, parts::BITS, 129);
     set(block, parts::BITS, 12);
@@ -67,26 +53,21 @@ fn receiving(stdout: Stdout, block: &mut [u8])
 }
 
 // V3 between two packets, of which the store tells none.
-fn awaiting(stdout: Stdout, block: &mut [u8])
-    requires { length block.old ≡ block_bytes }
-    ensures { length block.new ≡ block_bytes }
-{
+fn awaiting(stdout: Stdout, block: &mut [u8; parts::BLOCK]) {
     set(block, parts::STAGE, 2);
     damaged(stdout, block, parts::RECEIVED, 1);
     set(block, parts::EXPECTED, 1);
     damaged(stdout, block, parts::STORE, 1);
 }
 
-fn set(block: &mut [u8], at: usize, value: u8)
-    requires { (length block.old ≡ block_bytes) × (at < block_bytes) }
-    ensures { length block.new ≡ block_bytes }
+fn set(block: &mut [u8; parts::BLOCK], at: usize, value: u8)
+    requires { at < block_bytes }
 {
     block[at] = value;
 }
 
-fn damaged(stdout: Stdout, block: &mut [u8], at: usize, value: u8)
-    requires { (length block.old ≡ block_bytes) × (at < block_bytes) }
-    ensures { length block.new ≡ block_bytes }
+fn damaged(stdout: Stdout, block: &mut [u8; parts::BLOCK], at: usize, value: u8)
+    requires { at < block_bytes }
 {
     let before = block[at];
     set(block, at, value);

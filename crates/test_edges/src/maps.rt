@@ -1,14 +1,12 @@
 // The attribute commands, sent to the unit as it boots, and the map that each leaves: eighteen lines of twenty palette numbers.
 ghost use Rattle.std.specs.Prelude.{◌≡◌, length};
-ghost use Rattle.parts.specs.Parts.{block_bytes, map_bytes};
+ghost use Rattle.parts.specs.Parts.{map_bytes};
 
 use crate::replays::command;
 use std::io::Stdout;
 use test_text::say;
 
-pub fn examples(stdout: Stdout, block: &mut [u8])
-    requires { length block.old ≡ block_bytes }
-{
+pub fn examples(stdout: Stdout, block: &mut [u8; parts::BLOCK]) {
     // ATTR_CHR, two cells from the map's last one on: the second pair falls off the map
     show(
         stdout,
@@ -29,9 +27,7 @@ pub fn examples(stdout: Stdout, block: &mut [u8])
     );
 }
 
-fn show(stdout: Stdout, d: &[u8], block: &mut [u8])
-    requires { length block.old ≡ block_bytes }
-{
+fn show(stdout: Stdout, d: &[u8], block: &mut [u8; parts::BLOCK]) {
     command(stdout, d, block);
     rows(stdout, &block[parts::MAP..parts::SYSTEM]);
 }

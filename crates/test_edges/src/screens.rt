@@ -1,6 +1,4 @@
 // Screens: the third one after a transfer command lands (RULES 10.2).
-ghost use Rattle.std.specs.Prelude.{◌≡◌, length};
-ghost use Rattle.parts.specs.Parts.{block_bytes};
 
 use crate::replays::command;
 use std::io::Stdout;
@@ -8,9 +6,7 @@ use test_text::sent::show;
 
 // CHR_TRN to the upper half, and three screens whose first eight pixels have the shades 0 to 3, twice: planes 55 and 33, which the
 // upper half of the tiles then starts with.
-pub fn examples(stdout: Stdout, block: &mut [u8])
-    requires { length block.old ≡ block_bytes }
-{
+pub fn examples(stdout: Stdout, block: &mut [u8; parts::BLOCK]) {
     command(
         stdout,
         &[0x99, 0x01, 0, 0, 0, 0, 0, 0, 0, 0, 0, 0, 0, 0, 0, 0],

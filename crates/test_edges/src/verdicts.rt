@@ -1,7 +1,5 @@
 // Verdicts, RULES 7.2: as many items as the packets just hold conform, and with one more the command differs. Then ATTR_LIN is sent, and the
 // map's first row shown: what conforms is carried out whole, RULES 7.3, and a line that the packets don't hold changes nothing.
-ghost use Rattle.std.specs.Prelude.{◌≡◌, length};
-ghost use Rattle.parts.specs.Parts.{block_bytes};
 
 use crate::emulator::part;
 use crate::maps::row;
@@ -38,9 +36,7 @@ impl Announced {
     }
 }
 
-pub fn examples(stdout: Stdout, block: &mut [u8])
-    requires { length block.old ≡ block_bytes }
-{
+pub fn examples(stdout: Stdout, block: &mut [u8; parts::BLOCK]) {
     sets(stdout);
     lines(stdout);
     cells(stdout);
@@ -105,9 +101,7 @@ fn announcing(items: Announced, packets: u8, count: u16) -> [u8; parts::STORE_BY
 }
 
 // A line's byte is its column and 32 times its palette: columns 0 to 13 take palette 1, and fill the first packet; column 14 takes palette 2.
-fn columns(stdout: Stdout, packets: u8, count: u16, block: &mut [u8])
-    requires { length block.old ≡ block_bytes }
-{
+fn columns(stdout: Stdout, packets: u8, count: u16, block: &mut [u8; parts::BLOCK]) {
     let mut d = announcing(Announced::Lines, packets, count);
     put(
         &mut d,
@@ -117,9 +111,7 @@ fn columns(stdout: Stdout, packets: u8, count: u16, block: &mut [u8])
     carried(stdout, part(&d, 0, 16 * usize::from(packets)), block);
 }
 
-fn carried(stdout: Stdout, d: &[u8], block: &mut [u8])
-    requires { length block.old ≡ block_bytes }
-{
+fn carried(stdout: Stdout, d: &[u8], block: &mut [u8; parts::BLOCK]) {
     tell(stdout, pulses::verdict(d));
     played(stdout, d, block);
     row(stdout, &block[parts::MAP..parts::MAP + 5]);

@@ -1,7 +1,7 @@
 // The screen that carries a page, RULES 5.6: of two bytes of the page, and zeros besides, the two bytes that pack their eight pixels. Then
 // PAL_TRN is sent, and such a screen, shown as the third, lands: RULES 5.7. (A module can't have the name of a crate that is used.)
-ghost use Rattle.std.specs.Prelude.{◌≡◌, ◌+◌, ◌<◌, ◌≤◌, length};
-ghost use Rattle.parts.specs.Parts.{block_bytes, capture_bytes};
+ghost use Rattle.std.specs.Prelude.{◌+◌, ◌<◌, ◌≤◌};
+ghost use Rattle.parts.specs.Parts.{capture_bytes};
 ghost use Rattle.transfer.specs.Page.{page_bytes};
 
 use refusal::Refusal;
@@ -10,9 +10,7 @@ use test_text::sent::{played, show};
 use test_text::{line, refused};
 use transfer::page::PAGE_BYTES;
 
-pub fn examples(stdout: Stdout, block: &mut [u8])
-    requires { length block.old ≡ block_bytes }
-{
+pub fn examples(stdout: Stdout, block: &mut [u8; parts::BLOCK]) {
     // the first pixel is bit 7: shade 1 by the low plane's byte, 2 by the high plane's
     carried(stdout, 0, 0x80, 0, 0);
     carried(stdout, 0, 0, 0x80, 0);
@@ -81,9 +79,7 @@ fn tell(stdout: Stdout, told: Result<usize, Refusal>) {
 }
 
 // A first colour of 1234 hex; the two screens before it are blank.
-fn lands(stdout: Stdout, block: &mut [u8])
-    requires { length block.old ≡ block_bytes }
-{
+fn lands(stdout: Stdout, block: &mut [u8; parts::BLOCK]) {
     played(
         stdout,
         &[0x59, 0, 0, 0, 0, 0, 0, 0, 0, 0, 0, 0, 0, 0, 0, 0],

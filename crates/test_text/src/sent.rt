@@ -1,5 +1,5 @@
 // A command that is sent, and screens: what each leaves of the block.
-ghost use Rattle.std.specs.Prelude.{◌≡◌, ◌+◌, ◌≤◌, length};
+ghost use Rattle.std.specs.Prelude.{◌+◌, ◌≤◌};
 ghost use Rattle.parts.specs.Parts.{block_bytes};
 
 use crate::{line, say};
@@ -9,9 +9,7 @@ use transfer::pending::Transfer;
 use unit::Played;
 
 // A command of one packet or two by writes in a row: how many were taken, the command, and the block's first 13 bytes.
-pub fn played(stdout: Stdout, d: &[u8], block: &mut [u8])
-    requires { length block.old ≡ block_bytes }
-{
+pub fn played(stdout: Stdout, d: &[u8], block: &mut [u8; parts::BLOCK]) {
     let _ = unit::post_boot(block);
     let mut pulses = [0u8; 2 * 260];
     let _ = pulses::encode(d, &mut pulses);
@@ -43,8 +41,8 @@ pub fn completed(stdout: Stdout, packets: Option<u8>, command: &[u8]) {
 }
 
 // What lands, and what the part of the block that starts there then begins with.
-pub fn show(stdout: Stdout, screen: &[u8], block: &mut [u8], part: usize)
-    requires { (length block.old ≡ block_bytes) × (part + 2 ≤ block_bytes) }
+pub fn show(stdout: Stdout, screen: &[u8], block: &mut [u8; parts::BLOCK], part: usize)
+    requires { part + 2 ≤ block_bytes }
 {
     tell(stdout, unit::update_screen(block, screen));
     line(stdout, &block[part..part + 2]);
