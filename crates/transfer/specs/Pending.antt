@@ -17,10 +17,10 @@ number_of (BorderTiles false) = 2
 number_of (BorderTiles true) = 3
 number_of BorderMap = 4
 
--- the kind that a number names, or none above 4
+-- the kind that a number names, or the number itself, which names none above 4
 abbrev pub NamedBy : ℕ → Result Transfer UnknownKind → Type 0
 NamedBy n (Ok t) = n ≡ number_of t
-NamedBy n (Err e) = 4 < n
+NamedBy n (Err e) = (e.0 ≡ n) × (4 < n)
 
 -- byte 10, the countdown, and byte 11, the kind: both 0 where nothing is pending
 unfoldable pub countdown_of : Pending → ℕ
