@@ -3,7 +3,6 @@
 #![tactic(auto)]
 
 ghost use Rattle.std.specs.Prelude.{◌≡◌, ◌<◌, ◌≤◌, length};
-ghost use Rattle.receiver.specs.Receive.{rx_of, Sound};
 ghost use Rattle.receiver.specs.declared.Stage.TheVariants.{Receiving};
 ghost use Rattle.receiver.specs.Store.{packets_if};
 ghost use Rattle.receiver_run.specs.Run.{runs, port_of, ended_of, Ready};
@@ -14,7 +13,8 @@ use bits_eight::eight;
 use receiver::store::file;
 use receiver::{Receiver, Stage};
 use receiver_gather::gather;
-use receiver_polling::{Fed, after, index_rises, wait};
+use receiver_polling::fed::Fed;
+use receiver_polling::{after, index_rises, wait};
 use receiver_run::{Lines, Ran};
 
 // Runs the writes until a command completes or they end.
@@ -28,7 +28,15 @@ pub fn run_fast(start: Receiver, lines: Lines, mask: u8, writes: &[u8], store: &
     let mut i: usize = 0;
     // Stays: the place goes on by strides, and not by one.
     while i < writes.len() {
-        let f = skip(rx, here, mask, writes, i);
+        let f = skip(
+            Fed {
+                rx,
+                lines: here,
+                at: i,
+            },
+            mask,
+            writes,
+        );
         if f.at > i {
             rx = f.rx;
             here = f.lines;
@@ -60,30 +68,26 @@ pub fn run_fast(start: Receiver, lines: Lines, mask: u8, writes: &[u8], store: &
 
 // By the stage: up to the next start pulse, or a word of a packet's data pulses, as far as they are well formed. Kept small: it is
 // asked at every write, and each way is called in one place, so that what it answers stays in registers.
-fn skip(rx: Receiver, lines: Lines, mask: u8, writes: &[u8], from: usize) -> Fed
-    requires { Sound (rx_of rx) × (((lines.index < 255) × (mask < 255)) × (from ≤ length writes.now)) }
-    ensures { Passed mask from rx lines writes.now result }
+fn skip(start: Fed, mask: u8, writes: &[u8]) -> Fed
+    requires { (mask < 255) × (start.at ≤ length writes.now) }
+    ensures { Passed mask start.at start.rx start.lines writes.now result }
 {
-    if rx.stage == Stage::Receiving {
-        feed_on(rx, lines, mask, writes, from)
+    if start.rx.stage == Stage::Receiving {
+        feed_on(start, mask, writes)
     } else {
-        wait(rx, lines, mask, writes, from)
+        wait(start, mask, writes)
     }
 }
 
 // Where both lines are high and data pulses are in sight: a word of them.
-fn feed_on(rx: Receiver, lines: Lines, mask: u8, writes: &[u8], from: usize) -> Fed
-    requires { ((rx.stage ≡ Receiving) × Sound (rx_of rx)) × (((lines.index < 255) × (mask < 255)) × (from ≤ length writes.now)) }
-    ensures { Passed mask from rx lines writes.now result }
+fn feed_on(start: Fed, mask: u8, writes: &[u8]) -> Fed
+    requires { (start.rx.stage ≡ Receiving) × ((mask < 255) × (start.at ≤ length writes.now)) }
+    ensures { Passed mask start.at start.rx start.lines writes.now result }
 {
-    if lines.both && lines.p15 && in_sight(rx.bits, writes, from) {
-        feed(rx, lines.index, mask, writes, from)
+    if start.lines.both && start.lines.p15 && in_sight(start.rx.bits, writes, start.at) {
+        feed(start, mask, writes)
     } else {
-        Fed {
-            rx,
-            lines,
-            at: from,
-        }
+        start
     }
 }
 
@@ -98,31 +102,29 @@ fn in_sight(bits: u8, writes: &[u8], from: usize) -> bool
 }
 
 // While a packet is coming in and both lines are high: a word of data pulses at once, where a word begins.
-fn feed(rx: Receiver, index: u8, mask: u8, writes: &[u8], from: usize) -> Fed
-    requires { ((rx.stage ≡ Receiving) × Sound (rx_of rx)) × (((index < 255) × (mask < 255)) × (from ≤ length writes.now)) }
-    ensures { Passed mask from rx (released index) writes.now result }
+fn feed(start: Fed, mask: u8, writes: &[u8]) -> Fed
+    requires { ((start.rx.stage ≡ Receiving) × (start.lines ≡ released start.lines.index)) × ((mask < 255) × (start.at ≤ length writes.now)) }
+    ensures { Passed mask start.at start.rx start.lines writes.now result }
 {
-    let g = gather(writes, from);
-    let joined = |bits: u8, lo: u64, hi: u64| Fed {
-        rx: Receiver {
-            stage: Stage::Receiving,
-            expected: rx.expected,
-            received: rx.received,
-            bits,
-            lo,
-            hi,
-        },
-        lines: released(index_rises(index, mask, u64::from(g.ones))),
-        at: g.at,
+    let rx = start.rx;
+    let g = gather(writes, start.at);
+    let joined = |bits: u8, lo: u64, hi: u64| Receiver {
+        stage: Stage::Receiving,
+        expected: rx.expected,
+        received: rx.received,
+        bits,
+        lo,
+        hi,
     };
-    match rx.bits {
+    let next = match rx.bits {
         0 => joined(g.count, g.word, 0),
         64 => joined(64 + g.count, rx.lo, g.word),
-        _ => Fed {
-            rx,
-            lines: released(index),
-            at: from,
-        },
+        _ => return start,
+    };
+    Fed {
+        rx: next,
+        lines: released(index_rises(start.lines.index, mask, u64::from(g.ones))),
+        at: g.at,
     }
 }
 

@@ -20,7 +20,7 @@ use Rattle.receiver.proofs.Rises.{rises_at, rises-add, rises-at, rises-small}
 use Rattle.receiver_run.specs.Run.{runs, port_of}
 use Rattle.receiver_run.specs.declared.Lines.{Lines}
 use Rattle.receiver_run.proofs.Turns.{port}
-use Rattle.receiver_polling.specs.declared.Fed.{Fed}
+use Rattle.receiver_polling.specs.declared.fed.Fed.{Fed}
 use Rattle.receiver_polling.specs.Passing.{Passed}
 use Rattle.receiver_polling.proofs.Waits.{passes}
 use Rattle.receiver_polling.proofs.Bytes.{num, same, Small, Calm, calm_none, calm_more, calm, highs, high_bits, rose, rises-counted, enough, first, rises-few}
@@ -124,6 +124,8 @@ module _ (mask i : ℕ) (rx : Receiver) (l : Lines) (ws : List ℕ) (h : i + 8 �
           index = rises (rose l.p15 (slots 8 0 i ws)) l.index mask;
         };
         at = i + 8;
+        sound = so;
+        few = rises-small (rose l.p15 (slots 8 0 i ws)) l.index mask hi hm;
       }
 
   pub passed-eight : Passed mask i rx l ws beyond

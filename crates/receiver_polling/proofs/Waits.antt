@@ -24,7 +24,7 @@ use Rattle.receiver.proofs.Pulses.{Low, is-release, is-low, on-release, low-idle
 use Rattle.receiver_run.specs.Run.{lined, onward, runs, port_of}
 use Rattle.receiver_run.specs.declared.Lines.{Lines}
 use Rattle.receiver_run.proofs.Turns.{port, index-small}
-use Rattle.receiver_polling.specs.declared.Fed.{Fed}
+use Rattle.receiver_polling.specs.declared.fed.Fed.{Fed}
 use Rattle.receiver_polling.specs.Passing.{lines_after, Passed}
 
 still-low : {p : Pulse} {b : ℕ} (r : Rx) (rel : Bool) → Low p b → (r.stage ≡ Receiving → ⊥) → after_pulse r p rel ≡ quiet r
@@ -54,6 +54,11 @@ module _ (mask i x : ℕ) (r : Rx) (p15 both : Bool) (s : List ℕ) (v : ℕ) (v
       let after : Step → Port = λ (t : Step). port t.next (p15_high v) (both_high v) (filed t.done r.packet s) in
       ap (λ (t : Step). onward (packets_of t.done) (after t) y (suc i) (runs mask (suc i) y (after t) vs)) (still r both v f g)
 
+-- the index stays one that can step
+pub after-small : (l : Lines) (mask v : ℕ) → l.index < 255 → mask < 255 → (lines_after l mask v).index < 255
+unfolding lines_after
+after-small l mask v hi hm = index-small l.index mask l.p15 v hi hm
+
 -- one write on
 module _ (mask i : ℕ) (rx : Receiver) (l : Lines) (ws : List ℕ) (h : i < length ws) (so : Sound (rx_of rx)) (hi : l.index < 255)
     (hm : mask < 255) (f : rx.stage ≡ Receiving → ⊥) (g : bit_and (get_or ws i 0) 0x30 ≡ 0 → ⊥) where
@@ -63,6 +68,8 @@ module _ (mask i : ℕ) (rx : Receiver) (l : Lines) (ws : List ℕ) (h : i < len
         rx = rx;
         lines = lines_after l mask (get_or ws i 0);
         at = i + 1;
+        sound = so;
+        few = after-small l mask (get_or ws i 0) hi hm;
       }
 
   pub passed-one : Passed mask i rx l ws beyond
@@ -73,7 +80,7 @@ module _ (mask i : ℕ) (rx : Receiver) (l : Lines) (ws : List ℕ) (h : i < len
         within = omega arith;
         kept = refl;
         sound = so;
-        few = index-small l.index mask l.p15 (get_or ws i 0) hi hm;
+        few = after-small l mask (get_or ws i 0) hi hm;
         same = λ (s : List ℕ).
             ap (runs mask i l.index (port_of rx l s)) (drop-cons ws i 0 h)
             ∙ passes mask i l.index (rx_of rx) l.p15 l.both s (get_or ws i 0) (drop (suc i) ws) f g

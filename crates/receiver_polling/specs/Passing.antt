@@ -6,7 +6,7 @@ use Rattle.receiver.specs.Receive.{rx_of, Sound}
 use Rattle.receiver.specs.Lines.{p15_high, both_high, indexed}
 use Rattle.receiver_run.specs.Run.{runs, port_of}
 use Rattle.receiver_run.specs.declared.Lines.{Lines}
-use Rattle.receiver_polling.specs.declared.Fed.{Fed}
+use Rattle.receiver_polling.specs.declared.fed.Fed.{Fed}
 
 -- the lines and the joypad index after a write of v
 unfoldable pub lines_after : Lines → ℕ → ℕ → Lines

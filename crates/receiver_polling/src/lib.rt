@@ -3,44 +3,35 @@
 #![tactic(auto)]
 
 ghost use Rattle.std.specs.Prelude.{◌<◌, ◌≤◌, ◌≡◌, length};
-ghost use Rattle.receiver.specs.Receive.{rx_of, Sound};
 ghost use Rattle.receiver.specs.declared.Stage.TheVariants.{Receiving};
 ghost use Rattle.receiver.specs.Rises.{rises};
 ghost use Rattle.receiver_polling.specs.Passing.{lines_after, Passed};
 
+use crate::fed::Fed;
 use bits_eight::eight;
-use receiver::Receiver;
 use receiver::lines::{both_high, index_after, p15_high};
 use receiver_run::Lines;
 
-// A receiver further on, with the lines and the place.
-#[derive(Clone, Copy)]
-pub struct Fed {
-    pub rx: Receiver,
-    pub lines: Lines,
-    pub at: usize,
-}
+pub mod fed;
 
-pub fn wait(rx: Receiver, lines: Lines, mask: u8, writes: &[u8], from: usize) -> Fed
-    requires { ((rx.stage ≡ Receiving → ⊥) × Sound (rx_of rx)) × (((lines.index < 255) × (mask < 255)) × (from ≤ length writes.now)) }
-    ensures { Passed mask from rx lines writes.now result }
+pub fn wait(start: Fed, mask: u8, writes: &[u8]) -> Fed
+    requires { (start.rx.stage ≡ Receiving → ⊥) × ((mask < 255) × (start.at ≤ length writes.now)) }
+    ensures { Passed mask start.at start.rx start.lines writes.now result }
 {
-    let f = by_eight(rx, lines, mask, writes, from);
-    let now = f.rx;
-    let here = f.lines;
-    by_one(now, here, mask, writes, f.at)
+    let f = by_eight(start, mask, writes);
+    by_one(f, mask, writes)
 }
 
 // Eight writes at a time, while none of them is a start pulse: 70 hex carries each line that is high into bit 7. With P15 a byte for
 // each, it rises where it is high, less where it was high before; 256 being 1 modulo 255, a remainder counts.
-fn by_eight(rx: Receiver, lines: Lines, mask: u8, writes: &[u8], from: usize) -> Fed
-    requires { ((rx.stage ≡ Receiving → ⊥) × Sound (rx_of rx)) × (((lines.index < 255) × (mask < 255)) × (from ≤ length writes.now)) }
-    ensures { Passed mask from rx lines writes.now result }
+fn by_eight(start: Fed, mask: u8, writes: &[u8]) -> Fed
+    requires { (start.rx.stage ≡ Receiving → ⊥) × ((mask < 255) × (start.at ≤ length writes.now)) }
+    ensures { Passed mask start.at start.rx start.lines writes.now result }
 {
-    let mut p15 = lines.p15;
-    let mut both = lines.both;
+    let mut p15 = start.lines.p15;
+    let mut both = start.lines.both;
     let mut n: u64 = 0;
-    let mut i = from;
+    let mut i = start.at;
     // Stays: the place goes on by eight, and is told at either way out: with a `for` it would be counted by hand beside it.
     while writes.len() - i >= 8 {
         let x = eight(writes, i);
@@ -57,27 +48,27 @@ fn by_eight(rx: Receiver, lines: Lines, mask: u8, writes: &[u8], from: usize) ->
         i += 8;
     }
     Fed {
-        rx,
+        rx: start.rx,
         lines: Lines {
             p15,
             both,
-            index: index_rises(lines.index, mask, n),
+            index: index_rises(start.lines.index, mask, n),
         },
         at: i,
     }
 }
 
 // The writes up to the next start pulse, one by one.
-fn by_one(rx: Receiver, lines: Lines, mask: u8, writes: &[u8], from: usize) -> Fed
-    requires { ((rx.stage ≡ Receiving → ⊥) × Sound (rx_of rx)) × (((lines.index < 255) × (mask < 255)) × (from ≤ length writes.now)) }
-    ensures { Passed mask from rx lines writes.now result }
+fn by_one(start: Fed, mask: u8, writes: &[u8]) -> Fed
+    requires { (start.rx.stage ≡ Receiving → ⊥) × ((mask < 255) × (start.at ≤ length writes.now)) }
+    ensures { Passed mask start.at start.rx start.lines writes.now result }
 {
-    let mut here = lines;
-    for i in from..writes.len() {
+    let mut here = start.lines;
+    for i in start.at..writes.len() {
         let v = writes[i];
         if v & 0x30 == 0 {
             return Fed {
-                rx,
+                rx: start.rx,
                 lines: here,
                 at: i,
             };
@@ -85,7 +76,7 @@ fn by_one(rx: Receiver, lines: Lines, mask: u8, writes: &[u8], from: usize) -> F
         here = after(here, mask, v);
     }
     Fed {
-        rx,
+        rx: start.rx,
         lines: here,
         at: writes.len(),
     }

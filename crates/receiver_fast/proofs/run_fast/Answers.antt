@@ -15,7 +15,7 @@ loop-i-init c = ((omega arith, omega arith), (c.requires, refl))
 pub skip-f-requires : goal.skip-f-requires
 skip-f-requires c =
     let v = c.loop-i.invariant in
-    (v.1.0.sound, ((v.1.0.within, v.1.0.narrow), v.0.0))
+    (v.1.0.narrow, v.0.0)
 
 pub loop-i-preserved-then-f-i : goal.loop-i-preserved-then-f-i
 loop-i-preserved-then-f-i c =

@@ -1,13 +1,14 @@
 -- Each turn passes eight writes more by, and counts the rises of P15 among them.
-use mathlib.Core.Path.{sym, ◌∙◌}
+use mathlib.Core.Path.{refl, sym, ap, ◌∙◌}
 use Prim.Native.Nat.{ℕ, ◌<◌}
 use native.Mathlib.Omega.{arith}
 use lib.Bits.{and_le_r}
 use lib.ListN.{get_or}
 use Rattle.receiver.specs.Rises.{rises}
 use Rattle.receiver.proofs.Flags.{byte_is}
-use Rattle.receiver.proofs.Rises.{rises-add}
-use Rattle.receiver_polling.proofs.Strides.{stay, then}
+use Rattle.receiver.proofs.Rises.{rises-add, rises-small}
+use Rattle.receiver_run.specs.declared.Lines.{Lines}
+use Rattle.receiver_polling.proofs.Strides.{stay, then, as-well}
 use Rattle.receiver_polling.proofs.Bytes.{rose}
 use Rattle.receiver_polling.proofs.Polls.{slots, enough-high, high-count, rises-in, calm-eight, passed-eight}
 use Rattle.receiver_polling.proofs.by_eight.Goals as goal
@@ -16,11 +17,10 @@ pub loop-i-init : goal.loop-i-init
 unfolding rises
 loop-i-init c =
     let a = c.args in
-    let p = c.requires in
-    ((omega arith, omega arith), stay a.mask a.from a.rx a.lines a.writes.now p.1.1 p.0.1 p.1.0.0)
+    ((omega arith, omega arith), (a.start.few, stay a.mask a.start a.writes.now c.requires.1.1))
 
 pub overflow_sub-writes : goal.overflow_sub-writes
-overflow_sub-writes c = c.loop-i.invariant.1.within
+overflow_sub-writes c = c.loop-i.invariant.1.1.within
 
 pub eight-x-requires : goal.eight-x-requires
 eight-x-requires c = omega (arith, c.loop-i-test.true)
@@ -83,16 +83,21 @@ loop-i-preserved c =
     let few = rises-in i x.result ws bytes x.ensures at.p15 in
     let r : ℕ = rose at.p15 (slots 8 0 i ws) in
     let g = calm-eight i x.result ws bytes x.ensures c.if-x.false in
-    let on = passed-eight a.mask i a.rx (record { p15 = at.p15; both = at.both; index = rises at.n a.lines.index a.mask }) ws
-    (omega (arith, t)) p.0.1 at.invariant.1.few p.1.0.1 p.0.0 g in
-    let e = rises-add r at.n a.lines.index a.mask in
+    let on = passed-eight a.mask i a.start.rx (record { p15 = at.p15; both = at.both; index = rises at.n a.start.lines.index a.mask }) ws
+    (omega (arith, t)) a.start.sound at.invariant.1.0 p.1.0 p.0 g in
+    let e = rises-add r at.n a.start.lines.index a.mask in
     rw (c.from.ensures ∙ byte_is at.p15, n) (
       (omega (arith, at.invariant.0.0), at.invariant.0.1),
-      then a.mask a.from a.rx a.lines ws _ _ at.invariant.1 (rw (c.p15_high-p15.ensures, c.both_high-both.ensures, sym e) on),
+      rw (c.p15_high-p15.ensures, c.both_high-both.ensures, sym e)
+          (rises-small r (rises at.n a.start.lines.index a.mask) a.mask at.invariant.1.0 p.1.0, then a.mask a.start.at a.start.rx a.start.lines ws _ _ at.invariant.1.1 on),
     )
 
 pub index_rises-requires : goal.index_rises-requires
-index_rises-requires c = c.requires.1.0
+index_rises-requires c = (c.args.start.few, c.requires.1.0)
 
 pub returns : goal.returns
-returns c = rw c.index_rises.ensures c.loop-i.invariant.1
+returns c =
+    let at = c.loop-i in
+    let with : ℕ → Lines = λ (x : ℕ). record { p15 = at.p15; both = at.both; index = x } in
+    let e = ap with (sym c.index_rises.ensures) in
+    as-well _ _ _ _ _ _ _ refl e refl at.invariant.1.1
