@@ -9,14 +9,6 @@ ghost use Rattle.bits.specs.Plane.{nibble_of, plane_of, spread_of, four_of};
 ghost use Rattle.bits.specs.Over.{over};
 ghost use Rattle.bits.specs.Zero.{zeros};
 
-// A byte as an index: its bound stands in the contract, so that sums of bytes close by themselves.
-// Stays: its contract has the bound, on which sums of bytes rest.
-pub fn wide(b: u8) -> usize
-    ensures { (result ≡ b) × (result < 256) }
-{
-    usize::from(b)
-}
-
 // The word of two bytes.
 pub fn word(low: u8, high: u8) -> u16
     ensures { result ≡ word low high }

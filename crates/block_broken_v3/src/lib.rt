@@ -87,7 +87,7 @@ fn past(block: &[u8], received: u8) -> Option<u16>
     }
     set_in(
         block,
-        parts::STORE + 16 * bits::wide(received),
+        parts::STORE + 16 * usize::from(received),
         parts::PRESET,
     )
 }

@@ -28,7 +28,7 @@ pub fn shade(block: &[u8], x: usize, y: usize, shade: u8) -> Rgb555
     requires x_bound { (x < 160) × (y < 144) × (shade ≤ 3) }
     ensures { result.0 ≡ shade_in (parts_of (load block.now)) x y shade }
 {
-    of_block::colours(block).color_at(of_block::attributes(block), x, y, bits::wide(shade))
+    of_block::colours(block).color_at(of_block::attributes(block), x, y, usize::from(shade))
 }
 
 pub fn entry(block: &[u8], column: usize, row: usize) -> BorderMapEntry

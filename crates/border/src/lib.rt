@@ -95,7 +95,7 @@ fn bit(b: u8, k: usize) -> usize
     requires { k < 8 }
     ensures { (result ≡ bit_at k b) × (result < 2) }
 {
-    bits::wide(b) >> k & 1
+    usize::from(b) >> k & 1
 }
 
 // Colour i of an entry's palette.

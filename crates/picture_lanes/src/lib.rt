@@ -62,9 +62,9 @@ fn spread_at(spreads: &[u32], right: bool, b: u8) -> u32
     ensures { (result ≡ plane_lanes right b) × (result ≤ 286331153) }
 {
     if right {
-        spreads[256 + bits::wide(b)]
+        spreads[256 + usize::from(b)]
     } else {
-        spreads[bits::wide(b)]
+        spreads[usize::from(b)]
     }
 }
 

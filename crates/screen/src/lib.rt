@@ -98,5 +98,5 @@ pub fn pair_at(b: &[u8], k: usize) -> usize
     requires { k / 4 < length b.now }
     ensures { (result ≡ pair_at b.now k) × (result < 4) }
 {
-    bits::wide(bits::pair(b[k / 4], (k % 4) as u8))
+    usize::from(bits::pair(b[k / 4], (k % 4) as u8))
 }

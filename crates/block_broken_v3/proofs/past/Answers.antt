@@ -22,4 +22,4 @@ pub returns : goal.returns
 returns c =
     let b = c.args.block.now in
     let r = c.args.received in
-    c.set_in.ensures ∙ rw c.wide.ensures.0 (ap (λ l. lowest (zero_from (store_at + 16 * r) l)) (drop-part b store_at store_bytes (16 * r)))
+    c.set_in.ensures ∙ rw c.from.ensures (ap (λ l. lowest (zero_from (store_at + 16 * r) l)) (drop-part b store_at store_bytes (16 * r)))

@@ -9,4 +9,4 @@ unfolding shade_in
 returns c =
     let e = c.colours.ensures in
     c.color_at.ensures
-    ∙ (λ t. colour_at (e.of_palettes.0 t) (e.of_palettes.1 t) (e.of_byte t) (c.attributes.ensures.0 t) c.args.x c.args.y (c.wide.ensures.0 t))
+    ∙ (λ t. colour_at (e.of_palettes.0 t) (e.of_palettes.1 t) (e.of_byte t) (c.attributes.ensures.0 t) c.args.x c.args.y (c.from.ensures t))

@@ -8,5 +8,5 @@ use Rattle.border.proofs.bit.Goals as goal
 pub returns : goal.returns
 unfolding bit_at
 returns c =
-    let q = c.wide.result / 2 ^ c.args.k in
-    (and_mask q 1 ∙ ap (λ (v : ℕ). v / 2 ^ c.args.k % 2) c.wide.ensures.0, mask_lt q 1)
+    let q = c.from.result / 2 ^ c.args.k in
+    (and_mask q 1 ∙ ap (λ (v : ℕ). v / 2 ^ c.args.k % 2) c.from.ensures, mask_lt q 1)

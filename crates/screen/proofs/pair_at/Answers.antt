@@ -9,4 +9,4 @@ use Rattle.screen.proofs.pair_at.Goals as goal
 
 pub returns : goal.returns
 unfolding pair_at
-returns c = (c.wide.ensures.0 ∙ c.pair.ensures, omega (arith, c.wide.ensures.0 ∙ c.pair.ensures, pair_lt (get_or c.args.b.now (c.args.k / 4) 0) (c.args.k % 4)))
+returns c = (c.from.ensures ∙ c.pair.ensures, omega (arith, c.from.ensures ∙ c.pair.ensures, pair_lt (get_or c.args.b.now (c.args.k / 4) 0) (c.args.k % 4)))
