@@ -1,7 +1,7 @@
 -- How an answer crosses to C: one number of 32 bits, of which a refusal is just its own, as the calls tell it. RULES 2.1 and 2.8.
 --   the low byte   0 for a value, 1 to 127 a refusal by its number, 128 for an answer that is "none"
 --   the rest       the value, or the offset of a refusal that has one; else 0
--- So a call that can only be refused answers the refusal or 0, as `new`, `post_boot` and `check` do outright.
+-- So a call that can only be refused answers the refusal or 0 (`new`, `post_boot`, `check`).
 -- That different answers give different numbers is proofs/Apart of the crate `export`.
 use Rattle.std.specs.Prelude.{ℕ, ◌+◌, ◌*◌, ◌<◌, ◌≤◌, Bool, cond, Some, None}
 use Rattle.std.specs.Prelude as code

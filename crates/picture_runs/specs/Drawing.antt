@@ -1,4 +1,5 @@
--- Serves the loop over a row; nobody need believe it. What a run is drawn from, as the record that `pixel_in` takes.
+-- Serves the loop over a row; nobody need believe it: what the rows make is the picture (`row_is`, proofs/Whole of `picture`). What a run is drawn from, as
+-- the record that `pixel_in` takes.
 use Rattle.picture_runs.specs.Runs.{Source}
 use Rattle.picture_runs.specs.declared.drawing.PictureParts.{PictureParts}
 use Rattle.picture_runs.specs.declared.drawing.PictureTables.{PictureTables}
