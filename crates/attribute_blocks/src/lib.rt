@@ -35,7 +35,7 @@ impl BlkSet {
         }
     }
 
-    // The two tests of `&` are both made: no branch follows the cells.
+    // Both sides of each `&` are computed, so that neither test branches on the cell.
     fn cell(self, x: usize, y: usize, old: u8) -> u8
         ensures { result ≡ blk_cell self x y old }
     {

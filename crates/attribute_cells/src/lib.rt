@@ -14,6 +14,7 @@ pub struct Spot {
 
 impl Spot {
     // Along a row and then to the next row, or down a column and then to the next column.
+    // Stays: `along` as a bool. The definitions `next` and `place_of` take it so.
     fn next(self, along: bool) -> Spot
         requires { (self.x < 65536) × (self.y < 65536) }
         ensures { result ≡ next along self }
@@ -47,6 +48,7 @@ pub fn attr_chr(map: [[u8; 20]; 18], d: &[u8]) -> [[u8; 20]; 18]
 }
 
 // The first `total` pairs of the data, one place after another.
+// Stays: `along` as in `next`.
 fn run(map: [[u8; 20]; 18], d: &[u8], start: Spot, along: bool, total: usize) -> [[u8; 20]; 18]
     requires { Whole d.now × (total ≤ 4 * (length d.now - 6)) × (start.x < 256) × (start.y < 256) }
     ensures { result ≡ steps (λ k. put_at (place_of along start k) (pair_of_data d.now k)) total map }

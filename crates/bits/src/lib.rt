@@ -1,5 +1,6 @@
 // The leaves that every other crate stands on: words, packed pairs, plane bytes, copying into a part, a test for zeros.
-// By shifts and masks (docs/DECISIONS.md, Leaves over bytes). The meaning is in specs/, the laws in proofs/.
+// The meaning is in specs/, the laws in proofs/.
+// Stays: words by shifts and masks, and no `from_le_bytes`: a rule of the project (docs/DECISIONS.md, Leaves over bytes).
 #![tactic(auto)]
 
 ghost use Rattle.std.specs.Prelude.{◌≡◌, ◌+◌, ◌<◌, ◌≤◌, length, replicate};

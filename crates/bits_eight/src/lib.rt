@@ -5,6 +5,7 @@ ghost use Rattle.std.specs.Prelude.{◌≡◌, ◌+◌, ◌≤◌, length};
 ghost use Rattle.bits_eight.specs.Eight.{eight_at};
 
 // The eight from `at` on. In this flat form they become one load; as a loop they were eight.
+// Stays: by shifts, and no `from_le_bytes`: a rule of the project (docs/DECISIONS.md, Leaves over bytes).
 pub fn eight(s: &[u8], at: usize) -> u64
     requires { at + 8 ≤ length s.now }
     ensures { result ≡ eight_at s.now at }

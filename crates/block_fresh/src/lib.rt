@@ -1,5 +1,6 @@
 // The fresh units, `new` and `post_boot`, into a lent block. RULES 1.13. The meaning is `Fresh` in the crate `layout`.
-// Stays: the block's length is a clause. Each call is lent a slice, as C lends it, and an array would be made of it anew at each call.
+// Stays: the block's length is a clause. Each caller is lent a slice, and would turn it into an array at each call by a conversion whose failure it has
+// to rule out, which is no plainer.
 #![tactic(auto)]
 
 ghost use Rattle.std.specs.Prelude.{◌≡◌, [], ◌∷◌, ◌+◌, ◌≤◌, length};
@@ -39,7 +40,7 @@ fn fill_system(system: &mut [u8])
 }
 
 // A palette of four words, from `at` on.
-// Stays: a place beside the lent bytes, since `over at` is what its contract says.
+// Stays: a place beside the lent bytes, since `over at` is what its contract says; and shifts and masks, as in `bits`.
 fn put_palette(bytes: &mut [u8], at: usize, colours: [u16; 4])
     requires { at + 8 ≤ length bytes.old }
     ensures { bytes.new ≡ over at 8 (spec.word_bytes colours) bytes.old }

@@ -1,6 +1,7 @@
 // The port's bytes of the block: the receiver, the two lines and the joypad index out of them and back, and a complete command from the
 // packet store into the caller's buffer. RULES 1.4, 1.5 and 3. The meaning is in specs/Bytes.
-// Stays: the block's length is a clause. Each call is lent a slice, as C lends it, and an array would be made of it anew at each call.
+// Stays: the block's length is a clause. Each caller is lent a slice, and would turn it into an array at each call by a conversion whose failure it has
+// to rule out, which is no plainer.
 #![tactic(auto)]
 
 ghost use Rattle.std.specs.Prelude.{◌≡◌, ◌≤◌, ◌<◌, length};

@@ -65,8 +65,8 @@ pub fn flipped(flip: bool, k: usize) -> usize
 }
 
 // The part of the tiles that is tile n.
-// Stays: it refuses by an empty part, as RULES 2.7 and the call for C have it.
 // It is empty if n is over 255 or the tiles don't have 8,192 bytes, and only then.
+// Stays: it refuses by an empty part, as RULES 2.7 and the call for C have it.
 #[tactic(auto, unfolding(crate::specs::Tile::tile_part))]
 pub fn tile(tiles: &[u8], n: usize) -> &[u8]
     ensures { result.now ≡ tile_part tiles.now n }

@@ -61,6 +61,7 @@ pub fn decode(d: &[u8]) -> Command
 }
 
 // A freeze copies the live capture; the other modes look at nothing.
+// Stays: the mode as a number, as the definition `masking` takes it: it is the byte of the block (RULES 2.7).
 fn masking(mode: u8) -> Command
     ensures { (d : List ℕ) → told result d ≡ masking mode }
 {

@@ -1,6 +1,5 @@
 // The attribute commands on the ninety packed bytes.
-// Stays: four functions of two lines each. One helper that takes the command as a closure proves, but each closure owes a clause `requires` of its
-// own, so that each call of the helper takes six lines.
+// Stays: four functions of two lines each. Tried with a helper that takes the command as a closure: it proves, and takes six lines for two.
 ghost use Rattle.std.specs.Prelude.{◌≡◌, length};
 ghost use Rattle.parts.specs.Parts.{map_bytes};
 ghost use Rattle.attribute_map.specs.Data.{Whole};

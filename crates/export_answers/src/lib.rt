@@ -15,6 +15,7 @@ use refusal::Refusal;
 use transfer::pending::Transfer;
 use unit::Played;
 
+// Stays: none as a number, as include/sporedrift.h has it for C.
 pub const NONE: u32 = 128;
 
 // A value stands above the low byte.

@@ -40,7 +40,7 @@ pub struct Desk {
 const STEP_ROOM: usize = 256;
 
 // What a step has to tell: nothing, a command of so many packets that stands in the buffer, or that the line before the next is refused.
-// Stays: three cases. A refused line is no failure of the step, and a command is none of a line.
+// Stays: three cases. `told_by`, `ToldFits` and `is_refused` of specs/Steps take it by them.
 #[derive(Clone, Copy)]
 enum Told {
     Nothing,
@@ -227,7 +227,7 @@ fn is_refused(step: Step) -> bool
 
 // Steps, one after the other, with their texts together at the front of `out`: up to a refused line, while the next text has room, and
 // while anything is left of the chunk or of its last line's writes.
-// Stays: `from` is a place in the chunk, from which this fill goes on.
+// Stays: the chunk whole, and a place in it: a slice from there on would lose the place that the answer is told in.
 pub fn fill(start: Reading, desk: &mut Desk, chunk: &[u8], from: usize, out: &mut [u8]) -> Filled
     requires fit { Fit start desk.old }
     requires chunk_bound { (start.number + length chunk.now < most64 + from) × ((from ≤ length chunk.now) × (length chunk.now < most64)) }
@@ -256,7 +256,7 @@ pub fn head_line(block: &[u8], out: &mut [u8]) -> usize
 }
 
 // A row of the picture as `plate` prints it, at the front of `out`, from the tables of the block's picture.
-// Stays: that the block is valid is a clause, as in `block_picture`.
+// Stays: that the block is valid is a clause, as in the worker `block_picture::row_from` that it calls.
 pub fn row_line(block: &[u8], tables: &PictureTables, y: usize, words: &mut [u16], out: &mut [u8])
     requires valid { Valid block.now × (y < 224) }
     requires tables_of { TablesOf (parts_of (load block.now)) tables.now.spreads tables.now.border tables.now.game }

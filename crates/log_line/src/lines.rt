@@ -23,7 +23,7 @@ pub struct Taken {
 }
 
 // Takes the chunk's bytes from `at` up to the next LF onto the line that is held.
-// Stays: `at` is a place in the chunk, where the last step stopped.
+// Stays: the chunk whole, and a place in it: a slice from there on would lose the place that the answer is told in.
 pub fn split(held: Held, line: &mut [u8], chunk: &[u8], at: usize) -> Taken
     requires line_len { length line.old ≡ line_digits }
     requires size_le_line_digits { held_size held ≤ line_digits }
@@ -47,6 +47,7 @@ const STRIDE: usize = 64;
 
 // Where the first LF from `at` on stands, or the chunk's end. Most bytes of a log are digits, so they go by in strides that have no way out
 // before their end, and become vector code: byte by byte, `replay` took nearly twice as long on the sample log.
+// Stays: the place goes on by strides, and not by one.
 fn find_lf(chunk: &[u8], at: usize) -> usize
     requires { at ≤ length chunk.now }
     ensures value { result ≡ lf_at chunk.now at }

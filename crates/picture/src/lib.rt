@@ -17,6 +17,7 @@ use picture_runs::drawing::{PictureParts, PictureTables};
 use screen::Colours;
 
 // The tables, made once for as many rows as are drawn from them.
+// Stays: the mode is the block's byte, as `game_color` takes it.
 pub fn tables(colours: Colours, mode: u8, borders: &[u8], out: &mut PictureTables)
     requires { length borders.now ≡ border_palettes_bytes }
     ensures spreads_after { out.new.spreads ≡ tab 512 spread_of }
@@ -40,7 +41,7 @@ pub fn picture(out: &mut [u16], parts: &PictureParts, tables: &PictureTables)
 }
 
 // Row y, run by run, written from `at` on.
-// Stays: a place beside the lent output, as `Painted` tells what is left of the rest.
+// Stays: a place beside the lent output, as `Painted` tells what is left of the rest; and `Tables` as a clause, as at `PictureTables`.
 pub fn row(out: &mut [u16], at: usize, parts: &PictureParts, tables: &PictureTables, y: usize)
     requires tables { Tables tables.now.spreads tables.now.border tables.now.game }
     requires at_in_bounds { (at + 256 ≤ length out.old) × (y < 224) }

@@ -21,6 +21,7 @@ pub fn nibble(l: u32, j: usize) -> usize
 }
 
 // The eight indices that an entry shows in row y of its cell; all 0 where it draws nothing.
+// Stays: what the table holds is a clause, since it is filled in place, before which it isn't so.
 pub fn indices(tiles: &[u8], spreads: &[u32], entry: BorderMapEntry, y: usize) -> u32
     requires tiles_len { (length tiles.now ≡ tiles_bytes) × (y < 8) }
     requires spreads_value { spreads.now ≡ tab 512 spread_of }
@@ -77,7 +78,7 @@ pub fn fill_spreads(out: &mut [u32])
     fill_half::<256>(out);
 }
 
-// Its half from FROM on. A loop each, since within a half the side is known and no entry asks for it.
+// The half of the table from FROM on. FROM is a constant, so each instance's loop is compiled with its side alone.
 fn fill_half<const FROM: usize>(out: &mut [u32])
     requires { (length out.old ≡ 512) × (FROM ≤ 256) }
     ensures { Painted out.new out.old FROM 256 (λ k. spread_of (FROM + k)) }
@@ -100,6 +101,7 @@ fn spread(k: u32) -> u32
 }
 
 // Bit 7 in the lowest lane: halves, quarters and eighths change places.
+// Stays: beside `from_right`. Of their three lines each all shifts differ.
 fn from_left(b: u32) -> u32
     requires { b < 256 }
     ensures { result ≡ spread_of b }

@@ -10,8 +10,9 @@ pub struct PictureParts<'a> {
     pub ghost lent: { Lent tiles.now map.now attributes.now screen.now },
 }
 
-// Plane bytes spread over lanes, the border's 48 colours, and the screen's, four a palette. The colours are words: the borrow checker does not
-// cover a slice of structs.
+// Plane bytes spread over lanes, the border's 48 colours, and the screen's, four a palette. The colours are words, as
+// the picture of RULES 6.6 has them; the prover does not walk a slice of structs.
+// Stays: what they hold is a clause, `Tables`, and no ghost field: they are filled in place, before which it isn't so.
 #[derive(Drop)]
 pub struct PictureTables {
     pub spreads: [u32; 512],

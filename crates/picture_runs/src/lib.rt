@@ -91,8 +91,9 @@ fn cell(attributes: &[u8], c: usize, y: usize) -> usize
 }
 
 // The four kinds of run.
-// Stays: a loop for each. One loop over a closure for the colour of a pixel would need four closures with these contracts beside it.
-// One colour:
+// Stays: a loop for each. They share its head and the store alone: a closure would take over all else, and each contract would stay.
+//
+// One colour.
 fn run_plain(out: &mut [u16], at: usize, color: Rgb555)
     requires { at + 8 ≤ length out.old }
     ensures { Painted out.new out.old at 8 (λ j. color.0) }

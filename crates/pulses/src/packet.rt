@@ -26,7 +26,7 @@ pub fn encode_packet(packet: &[u8], out: &mut [u8])
 }
 
 // The writes of n packets, one after the other.
-// Stays: n is no place, and the command may be longer than its packets.
+// Stays: n beside the command. Its contract allows a longer command, and may not ask more.
 pub fn encode_packets(command: &[u8], n: usize, out: &mut [u8])
     requires { (n < 8) × ((16 * n ≤ length command.now) × (260 * n ≤ length out.old)) }
     ensures { out.new ≡ pulses_of n command.now ++ drop (260 * n) out.old }

@@ -18,7 +18,8 @@ pub enum Stage {
     Awaiting,
 }
 
-// The packet of sixteen bytes is two words, so that a data bit is one shift: as arrays it took ten times as long.
+// Stays: the packet of sixteen bytes is two words among the other fields, which stay in registers so that a data bit is one shift: as arrays it took ten
+// times as long.
 #[derive(Clone, Copy)]
 pub struct Receiver {
     pub stage: Stage,

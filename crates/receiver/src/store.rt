@@ -7,6 +7,7 @@ ghost use Rattle.receiver.specs.Store.{bytes_of, appended, filed, packets_of, pa
 use crate::{Done, Written};
 
 // Byte i of a packet.
+// Stays: the packet as its two words, here and below, as `Receiver` has it; and by shifts and masks, as in `bits`.
 pub fn byte_at(lo: u64, hi: u64, i: usize) -> u8
     requires { i < 16 }
     ensures { result ≡ get_or (bytes_of 16 (words lo hi)) i 0 }

@@ -11,7 +11,7 @@ use receiver::lines::{both_high, index_after, p15_high};
 use receiver::store::file;
 
 // The lines and the joypad index between two writes.
-// Stays: each flag is a line by itself, and no other field's.
+// Stays: two flags. The definitions `Port` and `port_of` take the two as Bools.
 #[derive(Clone, Copy)]
 pub struct Lines {
     pub p15: bool,

@@ -33,7 +33,7 @@ pub enum Refusal {
 }
 
 impl Rule {
-    // Stays: a name that says which number; a conversion by `From` would not.
+    // Stays: its contract says which number, where a conversion by `From` says it by a ghost member alone.
     fn number(self) -> u8
         ensures { result ≡ rule_number self }
     {

@@ -11,8 +11,8 @@ ghost use Rattle.screen.specs.Colours.{palette_colour, backdrop_of, shaded_of, m
 use colour::Rgb555;
 
 // The live capture or the frozen one, whole and not copied.
-// Stays: it refuses by an empty part, and takes the mode as any byte, as RULES 2.7 and the call for C have it.
 // The part is empty if one of them doesn't have 5,760 bytes, and only then.
+// Stays: it refuses by an empty part, and takes the mode as any byte, as RULES 2.7 and the call for C have it.
 #[tactic(auto, unfolding(crate::specs::Displayed::displayed))]
 pub fn displayed_screen<'a>(live: &'a [u8], frozen: &'a [u8], mode: u8) -> &'a [u8]
     ensures { result.now ≡ displayed live.now frozen.now mode }
@@ -47,6 +47,7 @@ impl<'a> Colours<'a> {
     }
 
     // A shade under palette n, as the mask mode lets it be seen.
+    // Stays: the mode is the block's byte, as `masked_of` takes it.
     #[tactic(auto, unfolding(crate::specs::Colours::masked_of))]
     pub fn masked(self, mode: u8, n: usize, shade: usize) -> Rgb555
         requires { (n < 4) × (shade < 4) }

@@ -1,7 +1,8 @@
 // States exchanged with the emulator (RULES 11): a state of its own form becomes a block, and a block such a state. Rust: `from_state`, and
 // `write_state` with `capture_memory`. Neither asks anything of its caller, and a refusal changes no lent byte. The meaning is `Coming` and
 // `Going` in the crate `state_spans`; the steps are `state_in` and `state_out`.
-// Stays: the block's length is a clause. Each call is lent a slice, as C lends it, and an array would be made of it anew at each call.
+// Stays: the block's length is a clause. Each caller is lent a slice, and would turn it into an array at each call by a conversion whose failure it has
+// to rule out, which is no plainer.
 #![tactic(auto)]
 
 ghost use Rattle.std.specs.Prelude.{◌≡◌, true, cond, eqb, length};

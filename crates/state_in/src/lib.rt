@@ -1,7 +1,8 @@
 // A state of the emulator that comes in, step by step (RULES 11.4 and 11.5): what stands before the block's palettes, with the rules that it is held
 // to, and the parts of the block. How long its spans are is the crate `state_fits`, and the call that refuses `state`. The meaning is `Coming` in
 // the crate `state_spans`.
-// Stays: the block's length is a clause. Each call is lent a slice, as C lends it, and an array would be made of it anew at each call.
+// Stays: the block's length is a clause. Each caller is lent a slice, and would turn it into an array at each call by a conversion whose failure it has
+// to rule out, which is no plainer.
 #![tactic(auto)]
 
 ghost use Rattle.std.specs.Prelude.{◌≡◌, true, [], ◌∷◌, ◌-◌, ◌*◌, ◌≤◌, length, get_or, replicate};
@@ -46,6 +47,7 @@ pub fn fill_front(front: &mut [u8], spans: &Spans)
 }
 
 // Its header, and zeros behind it.
+// Stays: `frozen` is a byte of the header, as `header_from` takes it.
 fn fill_header(front: &mut [u8], fields: &[u8], frozen: bool)
     requires { (length front.old ≡ palettes_at) × (length fields.now ≡ field_bytes) }
     ensures { front.new ≡ flat (spec.header_from fields.now (flag frozen) ∷ replicate packet_bytes 0 ∷ replicate store_bytes 0 ∷ replicate preset_bytes 0 ∷ []) }
@@ -124,7 +126,7 @@ pub fn put_border(block: &mut [u8], spans: &Spans)
 }
 
 // Cells or pixels, a byte each, into a part that has four to a byte; and zeros into a part.
-// Stays: the bounds of the part, as `parts` has them.
+// Stays: the bounds of the part, and not the part: `over` tells by them what is left of the rest of the block.
 fn put_cells(block: &mut [u8], from: usize, to: usize, cells: &[u8])
     requires { (from ≤ to) × ((to ≤ length block.old) × (length cells.now ≡ 4 * (to - from))) }
     ensures { block.new ≡ over from (to - from) (pack_cells (to - from) cells.now) block.old }
@@ -132,7 +134,7 @@ fn put_cells(block: &mut [u8], from: usize, to: usize, cells: &[u8])
     pack_cells(&mut block[from..to], cells);
 }
 
-// Stays: the bounds of the part, as `parts` has them.
+// Stays: the bounds of the part, and not the part: `over` tells by them what is left of the rest of the block.
 fn clear_in(block: &mut [u8], from: usize, to: usize)
     requires { (from ≤ to) × (to ≤ length block.old) }
     ensures { block.new ≡ over from (to - from) (replicate (to - from) 0) block.old }

@@ -1,6 +1,7 @@
 // A block that goes out as a state of the emulator, step by step (RULES 11.6): the room that is lent, and the spans group by group. The call that
 // refuses is the crate `state`. The meaning is `Going` in `state_spans`.
-// Stays: the block's length is a clause. Each call is lent a slice, as C lends it, and an array would be made of it anew at each call.
+// Stays: the block's length is a clause. Each caller is lent a slice, and would turn it into an array at each call by a conversion whose failure it has
+// to rule out, which is no plainer.
 #![tactic(auto)]
 
 ghost use Rattle.std.specs.Prelude.{◌≡◌, true, cond, ◌≤◌, length};
@@ -60,7 +61,7 @@ pub fn roomy(room: &SpansMut) -> bool
 // ---- the spans
 
 // Fields, current packet, the packets that are in, and the preset if it is in force.
-// Stays: the slices of one group; by groups no other field has to be told to stay as it was.
+// Stays: the slices of one group, and not the struct: each function would have to tell that the other fields stay as they were.
 fn lay_front(
     block: &[u8],
     fields: &mut [u8],
@@ -83,6 +84,7 @@ fn lay_front(
     }
 }
 
+// Stays: as `lay_front`.
 fn lay_tables(
     block: &[u8],
     palettes: &mut [u8],
@@ -114,6 +116,7 @@ fn lay_captures(block: &[u8], capture: &mut [u8], frozen_capture: &mut [u8])
     }
 }
 
+// Stays: as `lay_front`.
 fn lay_border(
     block: &[u8],
     border_tiles: &mut [u8],

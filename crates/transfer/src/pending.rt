@@ -25,7 +25,7 @@ pub struct UnknownKind(pub u8);
 
 impl Transfer {
     // Byte 11 of the block.
-    // Stays: its callers ask a kind for its number by this name, and `u8::from(transfer)` would not say which number.
+    // Stays: docs/PROOFS.md has its contract by this name.
     #[tactic(auto, unfolding(crate::specs::Pending::number_of))]
     pub fn number(self) -> u8
         ensures { result ≡ number_of self }
