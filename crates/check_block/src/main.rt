@@ -3,13 +3,13 @@
 // that it is lent, and the exit status, 1 where a read or a write failed.
 #![tactic(auto)]
 
-use log_writer::Streams;
+use log_writer::Printer;
 use std::process::ExitCode;
 
 fn main(rt: HostRuntime) -> ExitCode {
-    let mut tally: u64 = 0;
+    let mut printer = Printer::of(&rt);
     let mut saved = [0u8; check_saved::SAVED_BYTES];
     let mut line = [0u8; check_saved::LINE_BYTES];
-    let print = check_saved::check(Streams::of(&rt), &mut tally, &mut saved, &mut line);
+    let print = check_saved::check(&mut printer, &mut saved, &mut line);
     log_writer::status(print.sent)
 }

@@ -12,7 +12,7 @@ ghost use Rattle.check_saved.specs.Checked.{saved_bytes, line_bytes, Came, Told}
 use bits::put;
 use file_reader::{Print, Read, read_file};
 use log_text::{decimal, number_line};
-use log_writer::{Failed, Streams, write_out};
+use log_writer::{Failed, Printer, write_out};
 use refusal::Refusal;
 
 // What is read at most, which is one byte more than a block has; and room for a line.
@@ -21,13 +21,13 @@ pub const SAVED_BYTES: usize = parts::BLOCK + 1;
 pub const LINE_BYTES: usize = 45;
 
 // Reads a saved block and prints its line. A block that is too long is not read to its end: the line is the same.
-pub fn check(streams: Streams, tally: &mut u64, saved: &mut [u8], out: &mut [u8]) -> Print
+pub fn check(printer: &mut Printer, saved: &mut [u8], out: &mut [u8]) -> Print
     requires { (length saved.old ≡ saved_bytes) × (length out.old ≡ line_bytes) }
     ensures came { Came result.got result.end saved.new }
-    ensures told { Told result.end (is_ok result.sent) (take result.got saved.new) tally.old tally.new }
+    ensures told { Told result.end (is_ok result.sent) (take result.got saved.new) printer.old.tally printer.new.tally }
 {
-    let read = read_file(streams, saved);
-    let sent = print(read, streams, tally, saved, out);
+    let read = read_file(printer.streams, saved);
+    let sent = print(read, printer, saved, out);
     Print {
         got: read.got,
         end: read.end,
@@ -37,27 +37,21 @@ pub fn check(streams: Streams, tally: &mut u64, saved: &mut [u8], out: &mut [u8]
 
 // By how reading ended.
 // Stays: beside `print` of `pages_drawn`: what they share is `Read::front`, and each tells by its own text.
-fn print(
-    read: Read,
-    streams: Streams,
-    tally: &mut u64,
-    saved: &[u8],
-    out: &mut [u8],
-) -> Result<(), Failed>
+fn print(read: Read, printer: &mut Printer, saved: &[u8], out: &mut [u8]) -> Result<(), Failed>
     requires came { Came read.got read.end saved.now }
     requires saved_len { (length saved.now ≡ saved_bytes) × (length out.old ≡ line_bytes) }
-    ensures { Told read.end (is_ok result) (take read.got saved.now) tally.old tally.new }
+    ensures { Told read.end (is_ok result) (take read.got saved.now) printer.old.tally printer.new.tally }
 {
     let came = read.front(saved)?;
-    verdict(streams, tally, came, out)
+    verdict(printer, came, out)
 }
 
-fn verdict(streams: Streams, tally: &mut u64, came: &[u8], out: &mut [u8]) -> Result<(), Failed>
+fn verdict(printer: &mut Printer, came: &[u8], out: &mut [u8]) -> Result<(), Failed>
     requires { length out.old ≡ line_bytes }
-    ensures { Sent (is_ok result) tally.old (check_text came.now) tally.new }
+    ensures { Sent (is_ok result) printer.old.tally (check_text came.now) printer.new.tally }
 {
     let n = verdict_line(view::check(came), out);
-    write_out(streams, tally, &out[0..n])
+    write_out(printer, &out[0..n])
 }
 
 // The line of a verdict at the front of the output. Answers its length.

@@ -18,21 +18,15 @@ ghost use Rattle.log_plate.specs.Closed.{Closed};
 
 use log_chunks::Desk;
 use log_reader::{Print, Read};
-use log_writer::{Failed, State, Streams, write_out};
+use log_writer::{Failed, Printer, State, write_out};
 use picture_runs::drawing::PictureTables;
 
-pub fn plate(
-    streams: Streams,
-    tally: &mut u64,
-    desk: &mut Desk,
-    out: &mut [u8],
-    chunk: &mut [u8],
-) -> Print
+pub fn plate(printer: &mut Printer, desk: &mut Desk, out: &mut [u8], chunk: &mut [u8]) -> Print
     requires out_len { (length out.old ≡ out_bytes) × (length chunk.old ≡ chunk_bytes) }
-    ensures { (input : List ℕ) × ((length input ≡ result.got) × Printed (is_ok result.sent) result.ended plate_text input tally.old tally.new) }
+    ensures { (input : List ℕ) × ((length input ≡ result.got) × Printed (is_ok result.sent) result.ended plate_text input printer.old.tally printer.new.tally) }
 {
-    let f = log_reader::read_log(streams, tally, desk, out, chunk, true);
-    let sent = print(f, streams, tally, &desk.block, out);
+    let f = log_reader::read_log(printer, desk, out, chunk, true);
+    let sent = print(f, printer, &desk.block, out);
     Print {
         got: f.got,
         ended: f.ended,
@@ -41,36 +35,30 @@ pub fn plate(
 }
 
 // The picture where the log has ended, or the line that was refused.
-fn print(
-    read: Read,
-    streams: Streams,
-    tally: &mut u64,
-    block: &[u8],
-    out: &mut [u8],
-) -> Result<(), Failed>
+fn print(read: Read, printer: &mut Printer, block: &[u8], out: &mut [u8]) -> Result<(), Failed>
     requires valid { Valid block.now × (1 ≤ read.reading.number) }
     requires out_len { length out.old ≡ out_bytes }
-    ensures { Closed read.state read.reading block.now (is_ok result) tally.old tally.new }
+    ensures { Closed read.state read.reading block.now (is_ok result) printer.old.tally printer.new.tally }
 {
     match read.state {
-        State::Well => picture(streams, tally, block, out),
+        State::Well => picture(printer, block, out),
         State::Failed => Err(Failed),
-        State::Refused => refusal(streams, tally, read.reading.number - 1, out),
+        State::Refused => refusal(printer, read.reading.number - 1, out),
     }
 }
 
-fn refusal(streams: Streams, tally: &mut u64, number: u64, out: &mut [u8]) -> Result<(), Failed>
+fn refusal(printer: &mut Printer, number: u64, out: &mut [u8]) -> Result<(), Failed>
     requires { length out.old ≡ out_bytes }
-    ensures { Sent (is_ok result) tally.old (refusal_text number) tally.new }
+    ensures { Sent (is_ok result) printer.old.tally (refusal_text number) printer.new.tally }
 {
     let n = log_text::refusal_line(number, out, 0);
-    write_out(streams, tally, &out[0..n])
+    write_out(printer, &out[0..n])
 }
 
-fn picture(streams: Streams, tally: &mut u64, block: &[u8], out: &mut [u8]) -> Result<(), Failed>
+fn picture(printer: &mut Printer, block: &[u8], out: &mut [u8]) -> Result<(), Failed>
     requires valid { Valid block.now }
     requires out_len { length out.old ≡ out_bytes }
-    ensures { Sent (is_ok result) tally.old (picture_lines (load block.now)) tally.new }
+    ensures { Sent (is_ok result) printer.old.tally (picture_lines (load block.now)) printer.new.tally }
 {
     let mut tables = PictureTables {
         spreads: [0; 512],
@@ -79,13 +67,11 @@ fn picture(streams: Streams, tally: &mut u64, block: &[u8], out: &mut [u8]) -> R
     };
     block_picture::tables(block, &mut tables);
     let mut words = [0u16; 256];
-    rows(streams, tally, block, &tables, &mut words, out)
+    rows(printer, block, &tables, &mut words, out)
 }
 
-// Stays: six parameters. Streams and tally go on to `log_writer`, and the others are lent for each row.
 fn rows(
-    streams: Streams,
-    tally: &mut u64,
+    printer: &mut Printer,
     block: &[u8],
     tables: &PictureTables,
     words: &mut [u16],
@@ -94,11 +80,11 @@ fn rows(
     requires valid { Valid block.now }
     requires tables_of { TablesOf (parts_of (load block.now)) tables.now.spreads tables.now.border tables.now.game }
     requires words_len { (length words.old ≡ 256) × (length out.old ≡ out_bytes) }
-    ensures { Sent (is_ok result) tally.old (picture_lines (load block.now)) tally.new }
+    ensures { Sent (is_ok result) printer.old.tally (picture_lines (load block.now)) printer.new.tally }
 {
     for y in 0..224usize {
         log_chunks::row_line(block, tables, y, words, out);
-        write_out(streams, tally, &out[0..1025])?;
+        write_out(printer, &out[0..1025])?;
     }
     Ok(())
 }

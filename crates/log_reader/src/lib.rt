@@ -1,6 +1,6 @@
 // Reading a log from standard input, chunk by chunk, and writing what it tells. Both programs stand on it: `replay` writes the text of
-// each fill, `plate` is quiet up to its end. What is told stands in the contracts of `log_chunks`, what is written in the lent tally of
-// `log_writer`; here are the calls of `read`.
+// each fill, `plate` is quiet up to its end. What is told stands in the contracts of `log_chunks`, what is written in the tally of
+// the lent printer of `log_writer`; here are the calls of `read`.
 #![tactic(auto)]
 
 ghost use Rattle.std.specs.Prelude.{false, List, [], ◌≡◌, ℕ, ◌+◌, ◌≤◌, length, take};
@@ -11,7 +11,7 @@ ghost use Rattle.log_reader.specs.Read.{point, is_well, reads_on, Stands, Turned
 
 use log_chunks::Desk;
 use log_reading::Reading;
-use log_writer::{Failed, State, Streams, fail, told};
+use log_writer::{Failed, Printer, State, fail, told};
 use std::io::Read as _;
 
 // The bytes of a read, and of the text between two writes. Small, since they stand on the stack.
@@ -51,8 +51,7 @@ const TURNS: u64 = 1125899906842624;
 // All of a log, from a fresh unit on. A proved loop has to end, and nothing says that an input does: so its turns are counted.
 // Stays: `quiet` as a bool. The definitions of specs/Read take it so: `text_of`, `Stands`, `Reached`.
 pub fn read_log(
-    streams: Streams,
-    tally: &mut u64,
+    printer: &mut Printer,
     desk: &mut Desk,
     out: &mut [u8],
     chunk: &mut [u8],
@@ -60,7 +59,7 @@ pub fn read_log(
 ) -> Read
     requires out_len { (length out.old ≡ out_bytes) × (length chunk.old ≡ chunk_bytes) }
     ensures valid { Valid desk.new.block × (1 ≤ result.reading.number) }
-    ensures by_index { (input : List ℕ) × ((length input ≡ result.got) × Reached result.state result.ended quiet input result.reading desk.new.block tally.old tally.new) }
+    ensures by_index { (input : List ℕ) × ((length input ≡ result.got) × Reached result.state result.ended quiet input result.reading desk.new.block printer.old.tally printer.new.tally) }
 {
     block_fresh::post_boot(&mut desk.block);
     let mut read = Read {
@@ -70,13 +69,13 @@ pub fn read_log(
         ended: false,
     };
     for past in 0..TURNS {
-        let next = turn(read, streams, tally, desk, out, chunk, quiet);
+        let next = turn(read, printer, desk, out, chunk, quiet);
         if !goes_on(next) {
             return next;
         }
         read = next;
     }
-    let _ = eprintln!(streams.words; "the input does not end");
+    let _ = eprintln!(printer.streams.words; "the input does not end");
     Read {
         state: State::Failed,
         ended: false,
@@ -85,11 +84,10 @@ pub fn read_log(
 }
 
 // Reads once, and feeds what came.
-// Stays: `quiet`, and streams and tally beside the desk: they go on to `log_writer`, where no desk is known.
+// Stays: `quiet`, and the printer beside the desk: they go on to `log_writer`, where no desk is known.
 fn turn(
     start: Read,
-    streams: Streams,
-    tally: &mut u64,
+    printer: &mut Printer,
     desk: &mut Desk,
     out: &mut [u8],
     chunk: &mut [u8],
@@ -98,13 +96,13 @@ fn turn(
     requires fit { Fit start.reading desk.old }
     requires number_le_most_lines { (start.reading.number ≤ most_lines) × (start.got ≤ most_bytes) }
     requires out_len { (length out.old ≡ out_bytes) × (length chunk.old ≡ chunk_bytes) }
-    ensures { (n : ℕ) × Turned quiet start (point start.reading desk.old tally.old) (take n chunk.new) result (point result.reading desk.new tally.new) }
+    ensures { (n : ℕ) × Turned quiet start (point start.reading desk.old printer.old.tally) (take n chunk.new) result (point result.reading desk.new printer.new.tally) }
 {
-    let mut input = streams.input;
+    let mut input = printer.streams.input;
     let n = match input.read(chunk) {
         Ok(n) => n,
         Err(e) => {
-            fail(streams, "read", e);
+            fail(printer.streams, "read", e);
             return Read {
                 state: State::Failed,
                 ended: false,
@@ -113,9 +111,9 @@ fn turn(
         }
     };
     if n == 0 {
-        return finish(start, streams, tally, desk, out, quiet);
+        return finish(start, printer, desk, out, quiet);
     }
-    let f = feed(start.reading, streams, tally, desk, out, &chunk[..n], quiet);
+    let f = feed(start.reading, printer, desk, out, &chunk[..n], quiet);
     Read {
         reading: f.reading,
         state: f.state,
@@ -126,22 +124,15 @@ fn turn(
 
 // The input has ended: a last line that lacks its LF gets it.
 // Stays: as `turn`.
-fn finish(
-    start: Read,
-    streams: Streams,
-    tally: &mut u64,
-    desk: &mut Desk,
-    out: &mut [u8],
-    quiet: bool,
-) -> Read
+fn finish(start: Read, printer: &mut Printer, desk: &mut Desk, out: &mut [u8], quiet: bool) -> Read
     requires fit { Fit start.reading desk.old }
     requires number_le_most_lines { start.reading.number ≤ most_lines }
     requires out_len { length out.old ≡ out_bytes }
-    ensures { Turned quiet start (point start.reading desk.old tally.old) [] result (point result.reading desk.new tally.new) }
+    ensures { Turned quiet start (point start.reading desk.old printer.old.tally) [] result (point result.reading desk.new printer.new.tally) }
 {
     let lf = [10u8; 1];
     let k = log_reading::last_lf(start.reading);
-    let f = feed(start.reading, streams, tally, desk, out, &lf[0..k], quiet);
+    let f = feed(start.reading, printer, desk, out, &lf[0..k], quiet);
     Read {
         reading: f.reading,
         state: f.state,
@@ -154,8 +145,7 @@ fn finish(
 // Stays: as `turn`.
 fn feed(
     start: Reading,
-    streams: Streams,
-    tally: &mut u64,
+    printer: &mut Printer,
     desk: &mut Desk,
     out: &mut [u8],
     chunk: &[u8],
@@ -165,7 +155,7 @@ fn feed(
     requires number_le_most_lines { (start.number ≤ most_lines) × (length chunk.now ≤ chunk_bytes) }
     requires out_len { length out.old ≡ out_bytes }
     ensures kept { Kept start (length chunk.now) result desk.new }
-    ensures stands { Stands result.state false quiet (point start desk.old tally.old) chunk.now (point result.reading desk.new tally.new) }
+    ensures stands { Stands result.state false quiet (point start desk.old printer.old.tally) chunk.now (point result.reading desk.new printer.new.tally) }
 {
     let mut reading = start;
     let mut at = 0;
@@ -173,7 +163,7 @@ fn feed(
         let f = log_chunks::fill(reading, desk, chunk, at, out);
         at = f.at;
         reading = f.reading;
-        let state = told(streams, tally, &out[0..f.size], f.refused, quiet);
+        let state = told(printer, &out[0..f.size], f.refused, quiet);
         if !is_well(state) {
             return Fed { reading, state };
         }

@@ -13,20 +13,14 @@ ghost use Rattle.log_reader.specs.Read.{Printed};
 
 use log_chunks::Desk;
 use log_reader::Print;
-use log_writer::{Failed, Streams};
+use log_writer::{Failed, Printer};
 
 // Stays: beside `log_plate::plate`, with the same buffers: docs/PROOFS.md has a contract of each.
-pub fn replay(
-    streams: Streams,
-    tally: &mut u64,
-    desk: &mut Desk,
-    out: &mut [u8],
-    chunk: &mut [u8],
-) -> Print
+pub fn replay(printer: &mut Printer, desk: &mut Desk, out: &mut [u8], chunk: &mut [u8]) -> Print
     requires out_len { (length out.old ≡ out_bytes) × (length chunk.old ≡ chunk_bytes) }
-    ensures { (input : List ℕ) × ((length input ≡ result.got) × Printed (is_ok result.sent) result.ended replay_text input tally.old tally.new) }
+    ensures { (input : List ℕ) × ((length input ≡ result.got) × Printed (is_ok result.sent) result.ended replay_text input printer.old.tally printer.new.tally) }
 {
-    let f = log_reader::read_log(streams, tally, desk, out, chunk, false);
+    let f = log_reader::read_log(printer, desk, out, chunk, false);
     if !log_reader::is_told(f) {
         return Print {
             got: f.got,
@@ -34,7 +28,7 @@ pub fn replay(
             sent: Err(Failed),
         };
     }
-    let sent = head(streams, tally, &desk.block, out);
+    let sent = head(printer, &desk.block, out);
     Print {
         got: f.got,
         ended: f.ended,
@@ -43,10 +37,10 @@ pub fn replay(
 }
 
 // The block's first 13 bytes.
-fn head(streams: Streams, tally: &mut u64, block: &[u8], out: &mut [u8]) -> Result<(), Failed>
+fn head(printer: &mut Printer, block: &[u8], out: &mut [u8]) -> Result<(), Failed>
     requires { Valid block.now × (length out.old ≡ out_bytes) }
-    ensures { Sent (is_ok result) tally.old (head_line block.now) tally.new }
+    ensures { Sent (is_ok result) printer.old.tally (head_line block.now) printer.new.tally }
 {
     let n = log_chunks::head_line(block, out);
-    log_writer::write_out(streams, tally, &out[0..n])
+    log_writer::write_out(printer, &out[0..n])
 }

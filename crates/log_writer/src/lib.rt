@@ -1,6 +1,6 @@
-// Text written to standard output, and how a reading stands behind it. What `write` took is kept in one lent number, the tally: the kit's
-// contract of `write` says how many bytes it took and nothing of which, so that a contract can name what was printed only by a value that
-// the code carries.
+// Text written to standard output, and how a reading stands behind it. What `write` took is kept in one number, the tally of the lent
+// printer: the kit's contract of `write` says how many bytes it took and nothing of which, so that a contract can name what was printed only
+// by a value that the code carries.
 #![tactic(auto)]
 
 ghost use Rattle.std.specs.Prelude.{◌≡◌, ◌≤◌, length, take, is_ok, IfOk, OnErr};
@@ -11,7 +11,7 @@ use std::io;
 use std::io::{ErrorKind, Stderr, Stdin, Stdout};
 use std::process::ExitCode;
 
-// The standard streams, which `main` hands down.
+// The standard streams.
 #[derive(Clone, Copy)]
 pub struct Streams {
     pub input: Stdin,
@@ -26,6 +26,25 @@ impl Streams {
             input: rt.stdin(),
             output: rt.stdout(),
             words: rt.stderr(),
+        }
+    }
+}
+
+// What is printed to: the streams, and the tally of what standard output took. `main` makes one, and lends it from call to call.
+#[derive(Drop)]
+pub struct Printer {
+    pub streams: Streams,
+    pub tally: u64,
+}
+
+impl Printer {
+    // Nothing is printed yet.
+    pub fn of(rt: &HostRuntime) -> Printer
+        ensures { result.tally ≡ 0 }
+    {
+        Printer {
+            streams: Streams::of(rt),
+            tally: 0,
         }
     }
 }
@@ -54,34 +73,34 @@ pub enum State {
 
 // How it stands behind a fill: a quiet reading goes on up to a refused line, the other one while its text can be written.
 // Stays: `quiet` is a `bool`, as which the definition `ToldAs` and those of `log_reader/specs/Read` ask for it.
-pub fn told(streams: Streams, tally: &mut u64, text: &[u8], refused: bool, quiet: bool) -> State
-    ensures { ToldAs quiet refused tally.old text.now result tally.new }
+pub fn told(printer: &mut Printer, text: &[u8], refused: bool, quiet: bool) -> State
+    ensures { ToldAs quiet refused printer.old.tally text.now result printer.new.tally }
 {
     if quiet {
         return if refused { State::Refused } else { State::Well };
     }
-    match write_out(streams, tally, text) {
+    match write_out(printer, text) {
         Ok(()) => State::Well,
         Err(Failed) => State::Failed,
     }
 }
 
 // Writes all of a text, or as much as can be, and then says that it could not.
-pub fn write_out(streams: Streams, tally: &mut u64, text: &[u8]) -> Result<(), Failed>
-    ensures { Sent (is_ok result) tally.old text.now tally.new }
+pub fn write_out(printer: &mut Printer, text: &[u8]) -> Result<(), Failed>
+    ensures { Sent (is_ok result) printer.old.tally text.now printer.new.tally }
 {
-    let sent = hand_over(streams.output, tally, text);
-    sent.map_err(|why| fail(streams, "write", why))
+    let sent = hand_over(printer, text);
+    sent.map_err(|why| fail(printer.streams, "write", why))
 }
 
 // By its own loop: std's `write_all` does not tell how much of a text went out before a write failed.
-fn hand_over(output: Stdout, tally: &mut u64, text: &[u8]) -> io::Result<()>
-    ensures { Sent (is_ok result) tally.old text.now tally.new }
+fn hand_over(printer: &mut Printer, text: &[u8]) -> io::Result<()>
+    ensures { Sent (is_ok result) printer.old.tally text.now printer.new.tally }
 {
     let mut done: usize = 0;
     // Stays: the place goes on by what one write took.
     while done < text.len() {
-        let n = put(output, tally, &text[done..])?;
+        let n = put(printer, &text[done..])?;
         if n == 0 {
             return Err(io::Error::from(ErrorKind::WriteZero));
         }
@@ -92,12 +111,12 @@ fn hand_over(output: Stdout, tally: &mut u64, text: &[u8]) -> io::Result<()>
 
 // One call of `write`, the only one to standard output: the tally goes on by the bytes that it took. That these are the bytes that it
 // was handed is read off these lines. Where it fails it took none.
-fn put(output: Stdout, tally: &mut u64, text: &[u8]) -> io::Result<usize>
-    ensures ok { IfOk result (λ n. (n ≤ length text.now) × (tally.new ≡ tallied tally.old (take n text.now))) }
-    ensures err { OnErr result (tally.new ≡ tally.old) }
+fn put(printer: &mut Printer, text: &[u8]) -> io::Result<usize>
+    ensures ok { IfOk result (λ n. (n ≤ length text.now) × (printer.new.tally ≡ tallied printer.old.tally (take n text.now))) }
+    ensures err { OnErr result (printer.new.tally ≡ printer.old.tally) }
 {
-    let n = output.write_some(text)?;
-    *tally = weigh(*tally, &text[..n]);
+    let n = printer.streams.output.write_some(text)?;
+    printer.tally = weigh(printer.tally, &text[..n]);
     Ok(n)
 }
 

@@ -3,20 +3,14 @@
 // 1 where a read or a write failed.
 #![tactic(auto)]
 
-use log_writer::Streams;
+use log_writer::Printer;
 use std::process::ExitCode;
 
 fn main(rt: HostRuntime) -> ExitCode {
-    let mut tally: u64 = 0;
+    let mut printer = Printer::of(&rt);
     let mut input = [0u8; pages_drawn::INPUT_BYTES];
     let mut screen = [0u8; pages_drawn::SCREEN_BYTES];
     let mut out = [0u8; pages_drawn::FILE_BYTES];
-    let print = pages_drawn::draw(
-        Streams::of(&rt),
-        &mut tally,
-        &mut input,
-        &mut screen,
-        &mut out,
-    );
+    let print = pages_drawn::draw(&mut printer, &mut input, &mut screen, &mut out);
     log_writer::status(print.sent)
 }

@@ -16,7 +16,7 @@ ghost use Rattle.pages_drawn.specs.Lent.{input_bytes, file_bytes};
 use bits::put;
 use file_reader::{Print, Read, read_file};
 use log_text::number_line;
-use log_writer::{Failed, Streams, write_out};
+use log_writer::{Failed, Printer, write_out};
 use screen::pair_at;
 use transfer::page::PAGE_BYTES;
 
@@ -28,19 +28,13 @@ pub const SCREEN_BYTES: usize = parts::CAPTURE_BYTES;
 pub const FILE_BYTES: usize = 15 + 4 * SCREEN_BYTES;
 
 // Reads a page and prints the graymap of its screen. An input that is too long is not read to its end: the line is the same.
-pub fn draw(
-    streams: Streams,
-    tally: &mut u64,
-    input: &mut [u8],
-    screen: &mut [u8],
-    out: &mut [u8],
-) -> Print
+pub fn draw(printer: &mut Printer, input: &mut [u8], screen: &mut [u8], out: &mut [u8]) -> Print
     requires { (length input.old ≡ input_bytes) × ((length screen.old ≡ capture_bytes) × (length out.old ≡ file_bytes)) }
     ensures came { Came result.got result.end input.new }
-    ensures told { Told page_text result.end (is_ok result.sent) (take result.got input.new) tally.old tally.new }
+    ensures told { Told page_text result.end (is_ok result.sent) (take result.got input.new) printer.old.tally printer.new.tally }
 {
-    let read = read_file(streams, input);
-    let sent = print(read, streams, tally, input, screen, out);
+    let read = read_file(printer.streams, input);
+    let sent = print(read, printer, input, screen, out);
     Print {
         got: read.got,
         end: read.end,
@@ -49,36 +43,28 @@ pub fn draw(
 }
 
 // By how reading ended.
-// Stays: six parameters. Streams and tally go on to `log_writer`, and each buffer has a length of its own.
 fn print(
     read: Read,
-    streams: Streams,
-    tally: &mut u64,
+    printer: &mut Printer,
     input: &[u8],
     screen: &mut [u8],
     out: &mut [u8],
 ) -> Result<(), Failed>
     requires came { Came read.got read.end input.now }
     requires input_len { (length input.now ≡ input_bytes) × ((length screen.old ≡ capture_bytes) × (length out.old ≡ file_bytes)) }
-    ensures { Told page_text read.end (is_ok result) (take read.got input.now) tally.old tally.new }
+    ensures { Told page_text read.end (is_ok result) (take read.got input.now) printer.old.tally printer.new.tally }
 {
     let came = read.front(input)?;
-    tell(streams, tally, came, screen, out)
+    tell(printer, came, screen, out)
 }
 
 // Writes what is due of a whole input.
-fn tell(
-    streams: Streams,
-    tally: &mut u64,
-    came: &[u8],
-    screen: &mut [u8],
-    out: &mut [u8],
-) -> Result<(), Failed>
+fn tell(printer: &mut Printer, came: &[u8], screen: &mut [u8], out: &mut [u8]) -> Result<(), Failed>
     requires { (length screen.old ≡ capture_bytes) × (length out.old ≡ file_bytes) }
-    ensures { Sent (is_ok result) tally.old (page_text came.now) tally.new }
+    ensures { Sent (is_ok result) printer.old.tally (page_text came.now) printer.new.tally }
 {
     let n = text(came, screen, out);
-    write_out(streams, tally, &out[0..n])
+    write_out(printer, &out[0..n])
 }
 
 // The graymap of a page's screen, or the line of its refusal, at the front of the output. Answers its length.

@@ -5,11 +5,11 @@
 #![tactic(auto)]
 
 use log_chunks::Desk;
-use log_writer::Streams;
+use log_writer::Printer;
 use std::process::ExitCode;
 
 fn main(rt: HostRuntime) -> ExitCode {
-    let mut tally: u64 = 0;
+    let mut printer = Printer::of(&rt);
     let mut desk = Desk {
         block: [0; parts::BLOCK],
         line: [0; log_line::LINE_DIGITS],
@@ -18,12 +18,6 @@ fn main(rt: HostRuntime) -> ExitCode {
     };
     let mut out = [0u8; log_reader::OUT_BYTES];
     let mut chunk = [0u8; log_reader::CHUNK_BYTES];
-    let print = log_plate::plate(
-        Streams::of(&rt),
-        &mut tally,
-        &mut desk,
-        &mut out,
-        &mut chunk,
-    );
+    let print = log_plate::plate(&mut printer, &mut desk, &mut out, &mut chunk);
     log_writer::status(print.sent)
 }

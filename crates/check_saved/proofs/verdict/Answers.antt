@@ -14,4 +14,4 @@ returns c =
     let h = c.verdict_line-n.ensures in
     let text = verdict_line (code_or_0 c.check.result) in
     let lent = text-lent text args.out.now _ c.verdict_line-n.result (sym h.value) (h.out_after ∙ ap (λ (m : ℕ). over 0 m text args.out.now) (sym h.value)) in
-    subst (λ (l : List ℕ). Sent (is_ok c.write_out.result) args.tally.now l c.write_out.new.tally) (lent ∙ ap verdict_line c.check.ensures) c.write_out.ensures
+    subst (λ (l : List ℕ). Sent (is_ok c.write_out.result) args.printer.now.tally l c.write_out.new.printer.tally) (lent ∙ ap verdict_line c.check.ensures) c.write_out.ensures

@@ -14,4 +14,4 @@ returns c =
     let args = c.args in
     let text = refusal_text args.number in
     let h = c.refusal_line-n.ensures in
-    subst (λ (l : List ℕ). Sent (is_ok c.write_out.result) args.tally.now l c.write_out.new.tally) (text-lent text args.out.now _ c.refusal_line-n.result (sym h.value) (h.out_after ∙ ap (λ (m : ℕ). over 0 m text args.out.now) (sym h.value))) c.write_out.ensures
+    subst (λ (l : List ℕ). Sent (is_ok c.write_out.result) args.printer.now.tally l c.write_out.new.printer.tally) (text-lent text args.out.now _ c.refusal_line-n.result (sym h.value) (h.out_after ∙ ap (λ (m : ℕ). over 0 m text args.out.now) (sym h.value))) c.write_out.ensures

@@ -4,4 +4,4 @@ use Rattle.log_plate.proofs.Drawing.{Rows}
 use Rattle.log_plate.proofs.rows.Given as goal
 
 abbrev pub invariant-loop-y : goal.invariant-loop-y
-invariant-loop-y l = Rows l.block l.initial.tally l.tally l.y × ((length l.words ≡ 256) × (length l.out ≡ out_bytes))
+invariant-loop-y l = Rows l.block l.initial.printer.tally l.printer.tally l.y × ((length l.words ≡ 256) × (length l.out ≡ out_bytes))

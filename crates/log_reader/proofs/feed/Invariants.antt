@@ -5,10 +5,10 @@ use Rattle.log_reader.specs.Read.{point}
 use Rattle.log_reader.proofs.Feeding.{Turn}
 use Rattle.log_reader.proofs.feed.Given as goal
 
-abbrev pub invariant-loop-streams : goal.invariant-loop-streams
-invariant-loop-streams l =
-    Turn l.quiet (point l.initial.reading l.initial.desk l.initial.tally) l.chunk (point l.reading l.desk l.tally) l.at
+abbrev pub invariant-loop-desk : goal.invariant-loop-desk
+invariant-loop-desk l =
+    Turn l.quiet (point l.initial.reading l.initial.desk l.initial.printer.tally) l.chunk (point l.reading l.desk l.printer.tally) l.at
     × (length l.out ≡ length l.initial.out)
 
-abbrev pub decreases-loop-streams : goal.decreases-loop-streams
-decreases-loop-streams l = left l.reading (length l.chunk) l.at
+abbrev pub decreases-loop-desk : goal.decreases-loop-desk
+decreases-loop-desk l = left l.reading (length l.chunk) l.at

@@ -19,9 +19,9 @@ pub returns : goal.returns
 returns c =
     let args = c.args in
     let r = args.start.reading in
-    let p = point r args.desk.now args.tally.now in
+    let p = point r args.desk.now args.printer.now.tally in
     let f = c.feed-f in
-    let q = point f.result.reading f.new.desk f.new.tally in
+    let q = point f.result.reading f.new.desk f.new.printer.tally in
     let k = f.ensures in
     let one = last-part r c.last_lf-k.result c.last_lf-k.ensures in
     record {

@@ -9,7 +9,7 @@ use Rattle.log_reader.proofs.read_log.Goals as goal
 pub loop-past-init : goal.loop-past-init
 loop-past-init c =
     let sizes : LentSizes c.args.desk.now = record { block_long = omega arith; line_long = omega arith; bytes_long = omega arith; command_long = omega arith } in (
-      so_far_none c.args.quiet _ c.args.tally.now c.begin.result c.begin.ensures (boot-fit c.args.desk.now _ sizes c.post_boot.ensures),
+      so_far_none c.args.quiet _ c.args.printer.now.tally c.begin.result c.begin.ensures (boot-fit c.args.desk.now _ sizes c.post_boot.ensures),
       (omega (arith, ap (λ (r : Reading). r.number) c.begin.ensures), omega arith),
     )
 

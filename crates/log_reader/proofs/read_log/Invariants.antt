@@ -7,5 +7,5 @@ use Rattle.log_reader.proofs.read_log.Given as goal
 
 abbrev pub invariant-loop-past : goal.invariant-loop-past
 invariant-loop-past l =
-    SoFar l.quiet (point begun l.initial.desk l.initial.tally) l.read (point l.read.reading l.desk l.tally)
+    SoFar l.quiet (point begun l.initial.desk l.initial.printer.tally) l.read (point l.read.reading l.desk l.printer.tally)
     × ((l.read.reading.number ≤ 1 + l.past * chunk_bytes) × (l.read.got ≤ l.past * chunk_bytes))

@@ -15,4 +15,4 @@ returns c =
     let block = args.block.now in
     let h = c.head_line-n.ensures in
     let n = h.value.0 in
-    subst (λ (l : List ℕ). Sent (is_ok c.write_out.result) args.tally.now l c.write_out.new.tally) (text-lent (head_line block) args.out.now _ c.head_line-n.result (sym n) (h.out_after ∙ ap (λ (m : ℕ). over 0 m (head_line block) args.out.now) (sym n))) c.write_out.ensures
+    subst (λ (l : List ℕ). Sent (is_ok c.write_out.result) args.printer.now.tally l c.write_out.new.printer.tally) (text-lent (head_line block) args.out.now _ c.head_line-n.result (sym n) (h.out_after ∙ ap (λ (m : ℕ). over 0 m (head_line block) args.out.now) (sym n))) c.write_out.ensures

@@ -13,14 +13,14 @@ pub returns-in_err-came : goal.returns-in_err-came
 returns-in_err-came c =
     let args = c.args in
     let came = take args.read.got args.input.now in
-    let none = told_failed page_text args.read.end came args.tally.now (sym c.in_err-came.ensures.variant) in
-    subst (λ (b : Bool). Told page_text args.read.end b came args.tally.now args.tally.now) (grind (arith, common_steps, c.from_residual.ensures)) none
+    let none = told_failed page_text args.read.end came args.printer.now.tally (sym c.in_err-came.ensures.variant) in
+    subst (λ (b : Bool). Told page_text args.read.end b came args.printer.now.tally args.printer.now.tally) (grind (arith, common_steps, c.from_residual.ensures)) none
 
 pub returns : goal.returns
 returns c =
     let args = c.args in
     let t = c.tell in
     let front = c.in_ok-came.ensures in
-    let sent = subst (λ (l : List ℕ). Sent (is_ok t.result) args.tally.now (page_text l) t.new.tally) front.value t.ensures in
-    told_sent page_text args.read.got args.input.now (is_ok t.result) args.tally.now t.new.tally args.read.end input_bytes c.requires.input_len.0 however_it-goes_on
+    let sent = subst (λ (l : List ℕ). Sent (is_ok t.result) args.printer.now.tally (page_text l) t.new.printer.tally) front.value t.ensures in
+    told_sent page_text args.read.got args.input.now (is_ok t.result) args.printer.now.tally t.new.printer.tally args.read.end input_bytes c.requires.input_len.0 however_it-goes_on
     c.requires.came (sym front.variant) sent

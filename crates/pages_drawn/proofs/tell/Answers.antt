@@ -16,4 +16,4 @@ returns c =
     let due = page_text args.came.now in
     let size = sym made.ensures.value in
     let lent = text-lent due args.out.now _ made.result size (made.ensures.out_after ∙ ap (λ (m : ℕ). over 0 m due args.out.now) size) in
-    subst (λ (l : List ℕ). Sent (is_ok c.write_out.result) args.tally.now l c.write_out.new.tally) lent c.write_out.ensures
+    subst (λ (l : List ℕ). Sent (is_ok c.write_out.result) args.printer.now.tally l c.write_out.new.printer.tally) lent c.write_out.ensures
