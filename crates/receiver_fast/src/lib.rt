@@ -18,41 +18,35 @@ use receiver_polling::{after, index_rises, wait};
 use receiver_run::{Lines, Ran};
 
 // Runs the writes until a command completes or they end.
+// Stays: three variables and not one `Fed`, by which lines at random take a sixth more instructions: 29.3 million for 131,072 writes, where
+// these take 25.3.
 pub fn run_fast(start: Receiver, lines: Lines, mask: u8, writes: &[u8], store: &mut [u8]) -> Ran
     requires { Ready (port_of start lines store.old) lines.index mask }
     ensures ended { ended_of result store.new ≡ runs mask 0 lines.index (port_of start lines store.old) writes.now }
     ensures completed { result.packets ≡ packets_if (runs mask 0 lines.index (port_of start lines store.old) writes.now).packets }
 {
     let mut rx = start;
-    let mut here = lines;
-    let mut i: usize = 0;
+    let mut lines = lines;
+    let mut at: usize = 0;
     // Stays: the place goes on by strides, and not by one.
-    while i < writes.len() {
-        let f = skip(
-            Fed {
-                rx,
-                lines: here,
-                at: i,
-            },
-            mask,
-            writes,
-        );
-        if f.at > i {
+    while at < writes.len() {
+        let f = skip(Fed { rx, lines, at }, mask, writes);
+        if f.at > at {
             rx = f.rx;
-            here = f.lines;
-            i = f.at;
+            lines = f.lines;
+            at = f.at;
         } else {
-            let v = writes[i];
-            let w = rx.write(v, here.both);
+            let v = writes[at];
+            let w = rx.write(v, lines.both);
             let packets = file(w, rx.lo, rx.hi, store);
             rx = w.next;
-            here = after(here, mask, v);
-            i += 1;
+            lines = after(lines, mask, v);
+            at += 1;
             if packets.is_some() {
                 return Ran {
                     rx,
-                    lines: here,
-                    at: i,
+                    lines,
+                    at,
                     packets,
                 };
             }
@@ -60,8 +54,8 @@ pub fn run_fast(start: Receiver, lines: Lines, mask: u8, writes: &[u8], store: &
     }
     Ran {
         rx,
-        lines: here,
-        at: i,
+        lines,
+        at,
         packets: None,
     }
 }
