@@ -1,8 +1,6 @@
 // Whether a block is valid, and else which rule it breaks first, and at which byte: RULES 1.12 and 1.15. The tests V1 to V6 are the crate
 // `block_valid`; here is a function for each that looks for its byte, but for V3's, which is the crate `block_broken_v3`.
 // The meaning is `Broken` in the crate `broken`, function by function.
-// Stays: that the front is there is a clause. docs/PROOFS.md names these functions over a block's bytes, as each call is lent them; a struct of them would
-// be made anew at each call.
 #![tactic(auto)]
 
 ghost use Rattle.std.specs.Prelude.{◌≡◌, cond, eqb, leb, length};
@@ -16,61 +14,56 @@ ghost use Rattle.refusal.specs.Codes.{rule_number, code_or_0};
 use block_broken_v3::at_v3;
 use block_found::{at_most, lower, set_in, unless, zero_at};
 use block_receiver::v3;
-use block_valid::{lines_agree, mask_allows, v1, v2, v4, v5, v6};
+use block_valid::{Front, lines_agree, mask_allows, v1, v2, v4, v5, v6};
 use refusal::{Refusal, Rule};
 
-fn at_v1(block: &[u8]) -> Option<u16>
-    requires { Fronted block.now }
-    ensures { found_told result ≡ spec.lowest (spec.asks1 block.now) }
+fn at_v1(front: Front) -> Option<u16>
+    ensures { found_told result ≡ spec.lowest (spec.asks1 front.entry.bytes.now) }
 {
-    let index = block[parts::INDEX];
-    let within = index & block[parts::PADS] == index;
-    let pads = at_most(block, parts::PADS, 3);
+    let index = front.bytes[parts::INDEX];
+    let within = index & front.bytes[parts::PADS] == index;
+    let pads = at_most(front, parts::PADS, 3);
     lower(
-        at_most(block, parts::MASK, 3),
+        at_most(front, parts::MASK, 3),
         lower(unless(within, parts::INDEX as u16), pads),
     )
 }
 
-fn at_v2(block: &[u8]) -> Option<u16>
-    requires { Fronted block.now }
-    ensures { found_told result ≡ spec.lowest (spec.asks2 block.now) }
+fn at_v2(front: Front) -> Option<u16>
+    ensures { found_told result ≡ spec.lowest (spec.asks2 front.entry.bytes.now) }
 {
-    let agree = lines_agree(block[parts::P15], block[parts::BOTH]);
+    let agree = lines_agree(front.bytes[parts::P15], front.bytes[parts::BOTH]);
     let lines = unless(agree, parts::P15 as u16);
-    let spare = lower(lines, set_in(block, parts::SPARE, parts::PACKET));
-    let frozen = lower(at_most(block, parts::FROZEN_ON, 1), spare);
-    let preset = lower(at_most(block, parts::PRESET_ON, 1), frozen);
-    let both = lower(at_most(block, parts::BOTH, 1), preset);
-    lower(at_most(block, parts::P15, 1), both)
+    let spare = lower(lines, set_in(front.bytes, parts::SPARE, parts::PACKET));
+    let frozen = lower(at_most(front, parts::FROZEN_ON, 1), spare);
+    let preset = lower(at_most(front, parts::PRESET_ON, 1), frozen);
+    let both = lower(at_most(front, parts::BOTH, 1), preset);
+    lower(at_most(front, parts::P15, 1), both)
 }
 
-fn at_v4(block: &[u8]) -> Option<u16>
-    requires { Fronted block.now }
-    ensures { found_told result ≡ spec.lowest (spec.asks4 block.now) }
+fn at_v4(front: Front) -> Option<u16>
+    ensures { found_told result ≡ spec.lowest (spec.asks4 front.entry.bytes.now) }
 {
-    lower(at_most(block, parts::COUNTDOWN, 3), kind(block))
+    lower(at_most(front, parts::COUNTDOWN, 3), kind(front))
 }
 
 // The kind, by the countdown.
-fn kind(block: &[u8]) -> Option<u16>
-    requires { Fronted block.now }
-    ensures { found_told result ≡ spec.byte_of (spec.asked kind_at (cond (eqb (byte countdown_at block.now) 0) (eqb (byte kind_at block.now) 0) (leb (byte kind_at block.now) 4))) }
+fn kind(front: Front) -> Option<u16>
+    ensures { found_told result ≡ spec.byte_of (spec.asked kind_at (cond (eqb (byte countdown_at front.entry.bytes.now) 0) (eqb (byte kind_at front.entry.bytes.now) 0) (leb (byte kind_at front.entry.bytes.now) 4))) }
 {
-    if block[parts::COUNTDOWN] == 0 {
-        return zero_at(block, parts::KIND);
+    if front.bytes[parts::COUNTDOWN] == 0 {
+        return zero_at(front, parts::KIND);
     }
-    at_most(block, parts::KIND, 4)
+    at_most(front, parts::KIND, 4)
 }
 
-fn at_v5(block: &[u8]) -> Option<u16>
-    requires { Fronted block.now }
-    ensures { found_told result ≡ spec.lowest (spec.asks5 block.now) }
+fn at_v5(front: Front) -> Option<u16>
+    ensures { found_told result ≡ spec.lowest (spec.asks5 front.entry.bytes.now) }
 {
-    if block[parts::PRESET_ON] != 0 {
+    if front.bytes[parts::PRESET_ON] != 0 {
         return None;
     }
-    set_in(block, parts::PRESET, parts::PALETTES)
+    set_in(front.bytes, parts::PRESET, parts::PALETTES)
 }
 
 fn at_v6(block: &[u8]) -> Option<u16>
@@ -105,20 +98,21 @@ pub fn broken_front(block: &[u8]) -> Result<(), Refusal>
     requires { Fronted block.now }
     ensures { code_or_0 result ≡ spec.broken_number (spec.first_of 1 (spec.front_rules block.now)) }
 {
-    if !v1(block) {
-        return broken_at(Rule::V1, at_v1(block));
+    let front = Front { bytes: block };
+    if !v1(front) {
+        return broken_at(Rule::V1, at_v1(front));
     }
-    if !v2(block) {
-        return broken_at(Rule::V2, at_v2(block));
+    if !v2(front) {
+        return broken_at(Rule::V2, at_v2(front));
     }
-    if !v3(block) {
-        return broken_at(Rule::V3, at_v3(block));
+    if !v3(front) {
+        return broken_at(Rule::V3, at_v3(front));
     }
-    if !v4(block) {
-        return broken_at(Rule::V4, at_v4(block));
+    if !v4(front) {
+        return broken_at(Rule::V4, at_v4(front));
     }
-    if !v5(block) {
-        return broken_at(Rule::V5, at_v5(block));
+    if !v5(front) {
+        return broken_at(Rule::V5, at_v5(front));
     }
     Ok(())
 }

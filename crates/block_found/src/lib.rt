@@ -1,19 +1,17 @@
 // Looking for the byte of a block that breaks a rule: the lower of two, zeros that aren't, packet bits past the bit index. What is looked for
 // where is the crate `block_broken`; it is asked only of a block that is not valid, so that a valid one is checked as quickly as without it.
 // The meaning is `Broken` in the crate `broken`.
-// Stays: that the front is there is a clause. docs/PROOFS.md names these functions over a block's bytes, as each call is lent them; a struct of them would
-// be made anew at each call.
 #![tactic(auto)]
 
 ghost use Rattle.std.specs.Prelude.{◌≡◌, ◌+◌, ◌-◌, ◌/◌, ◌^◌, ◌<◌, ◌≤◌, leb, length};
 ghost use Rattle.parts.specs.Parts.{block_bytes, header_bytes, packet_at, packet_bytes};
 ghost use Rattle.layout.specs.Block.{byte};
-ghost use Rattle.layout.specs.Valid.{Fronted};
 ghost use Rattle.bits.specs.Over.{part};
 ghost use Rattle.broken.specs.Broken.{asked, zero_at, byte_of, lower, lowest, zero_from, clear_from};
 ghost use Rattle.block_found.specs.Found.{found_told, first_set};
 
 use bits::all_zero;
+use block_valid::Front;
 
 // What is found is the offset of a byte, or none where nothing is broken.
 // Stays: `holds` is what was asked, as `Asked` has it, and no choice of what to do.
@@ -24,18 +22,18 @@ pub fn unless(holds: bool, at: u16) -> Option<u16>
 }
 
 // A byte of the header that is to be at most so much, and one that is to be zero.
-pub fn at_most(block: &[u8], at: usize, most: u8) -> Option<u16>
-    requires { Fronted block.now × (at < header_bytes) }
-    ensures { found_told result ≡ byte_of (asked at (leb (byte at block.now) most)) }
+pub fn at_most(front: Front, at: usize, most: u8) -> Option<u16>
+    requires { at < header_bytes }
+    ensures { found_told result ≡ byte_of (asked at (leb (byte at front.entry.bytes.now) most)) }
 {
-    unless(block[at] <= most, at as u16)
+    unless(front.bytes[at] <= most, at as u16)
 }
 
-pub fn zero_at(block: &[u8], at: usize) -> Option<u16>
-    requires { Fronted block.now × (at < header_bytes) }
-    ensures { found_told result ≡ byte_of (zero_at at block.now) }
+pub fn zero_at(front: Front, at: usize) -> Option<u16>
+    requires { at < header_bytes }
+    ensures { found_told result ≡ byte_of (zero_at at front.entry.bytes.now) }
 {
-    unless(block[at] == 0, at as u16)
+    unless(front.bytes[at] == 0, at as u16)
 }
 
 pub fn lower(a: Option<u16>, b: Option<u16>) -> Option<u16>
@@ -89,11 +87,10 @@ pub fn set_in(block: &[u8], from: usize, to: usize) -> Option<u16>
 }
 
 // The first byte of the current packet with a bit at the bit index or past it.
-pub fn bits_past(block: &[u8], index: u8) -> Option<u16>
-    requires { Fronted block.now }
-    ensures { found_told result ≡ lowest (clear_from index packet_at (part packet_at packet_bytes block.now)) }
+pub fn bits_past(front: Front, index: u8) -> Option<u16>
+    ensures { found_told result ≡ lowest (clear_from index packet_at (part packet_at packet_bytes front.entry.bytes.now)) }
 {
-    let packet = &block[parts::PACKET..parts::STORE];
+    let packet = &front.bytes[parts::PACKET..parts::STORE];
     let mut left = index;
     for (i, byte) in packet.iter().enumerate() {
         if shifted(*byte, left) != 0 {

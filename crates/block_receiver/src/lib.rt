@@ -1,7 +1,5 @@
 // V3 of a block, RULES 1.8: what the receiver's bytes may be at each of its stages. The other clauses are the crate `block_valid`, all of them together `block_broken`.
 // The meaning is `v3` in the crate `layout`; what it says of each stage is `Valid` in the crate `receiver`.
-// Stays: that the front is there is a clause. docs/PROOFS.md names these functions over a block's bytes, as each call is lent them; a struct of them would
-// be made anew at each call.
 #![tactic(auto)]
 
 ghost use Rattle.std.specs.Prelude.{◌≡◌, ◌^◌, ◌≤◌, ltb, length};
@@ -14,60 +12,59 @@ ghost use Rattle.receiver.specs.declared.Stage.TheVariants.{Idle, Receiving, Awa
 
 use bits::all_zero;
 use block_packet::half;
+use block_valid::Front;
 use receiver::packet_count;
 
 // By the receiver's stage, which is 0, 1 or 2.
-pub fn v3(block: &[u8]) -> bool
-    requires { spec.Fronted block.now }
-    ensures { result ≡ spec.v3 block.now }
+pub fn v3(front: Front) -> bool
+    ensures { result ≡ spec.v3 front.entry.bytes.now }
 {
-    match block[parts::STAGE] {
-        0 => idle(block),
-        1 => receiving(block),
-        2 => awaiting(block),
+    match front.bytes[parts::STAGE] {
+        0 => idle(front),
+        1 => receiving(front),
+        2 => awaiting(front),
         _ => false,
     }
 }
 
 // An idle receiver holds nothing.
-fn idle(block: &[u8]) -> bool
-    requires { spec.Fronted block.now }
-    ensures { result ≡ v3_at Idle (load block.now).port.rx (load block.now).port.store }
+fn idle(front: Front) -> bool
+    ensures { result ≡ v3_at Idle (load front.entry.bytes.now).port.rx (load front.entry.bytes.now).port.store }
 {
-    block[parts::EXPECTED] == 0
-        && block[parts::RECEIVED] == 0
-        && block[parts::BITS] == 0
-        && all_zero(&block[parts::PACKET..parts::STORE])
-        && all_zero(&block[parts::STORE..parts::PRESET])
+    front.bytes[parts::EXPECTED] == 0
+        && front.bytes[parts::RECEIVED] == 0
+        && front.bytes[parts::BITS] == 0
+        && all_zero(&front.bytes[parts::PACKET..parts::STORE])
+        && all_zero(&front.bytes[parts::STORE..parts::PRESET])
 }
 
 // Up to 128 bits of the packet are in, and none of those to come is set; on the first packet nothing else is held.
-fn receiving(block: &[u8]) -> bool
-    requires { spec.Fronted block.now }
-    ensures { result ≡ v3_at Receiving (load block.now).port.rx (load block.now).port.store }
+fn receiving(front: Front) -> bool
+    ensures { result ≡ v3_at Receiving (load front.entry.bytes.now).port.rx (load front.entry.bytes.now).port.store }
 {
-    let bits = block[parts::BITS];
+    let bits = front.bytes[parts::BITS];
     if bits > 128
         || !clear_from(
-            half(block, parts::PACKET),
-            half(block, parts::PACKET + 8),
+            half(front.bytes, parts::PACKET),
+            half(front.bytes, parts::PACKET + 8),
             bits,
         )
     {
         return false;
     }
-    if block[parts::RECEIVED] != 0 {
-        return some_in(block);
+    if front.bytes[parts::RECEIVED] != 0 {
+        return some_in(front);
     }
-    block[parts::EXPECTED] == 0 && all_zero(&block[parts::STORE..parts::PRESET])
+    front.bytes[parts::EXPECTED] == 0 && all_zero(&front.bytes[parts::STORE..parts::PRESET])
 }
 
 // Between two packets no bit is in.
-fn awaiting(block: &[u8]) -> bool
-    requires { spec.Fronted block.now }
-    ensures { result ≡ v3_at Awaiting (load block.now).port.rx (load block.now).port.store }
+fn awaiting(front: Front) -> bool
+    ensures { result ≡ v3_at Awaiting (load front.entry.bytes.now).port.rx (load front.entry.bytes.now).port.store }
 {
-    block[parts::BITS] == 0 && all_zero(&block[parts::PACKET..parts::STORE]) && some_in(block)
+    front.bytes[parts::BITS] == 0
+        && all_zero(&front.bytes[parts::PACKET..parts::STORE])
+        && some_in(front)
 }
 
 // No bit of a packet at `bits` or past it is set.
@@ -83,15 +80,14 @@ fn clear_from(lo: u64, hi: u64, bits: u8) -> bool
 }
 
 // Some packets are in and some are due, as the store's first byte counts them, and the store holds no more than those.
-fn some_in(block: &[u8]) -> bool
-    requires { spec.Fronted block.now }
-    ensures { result ≡ later (load block.now).port.rx.expected (load block.now).port.rx.received (load block.now).port.store }
+fn some_in(front: Front) -> bool
+    ensures { result ≡ later (load front.entry.bytes.now).port.rx.expected (load front.entry.bytes.now).port.rx.received (load front.entry.bytes.now).port.store }
 {
-    let received = block[parts::RECEIVED];
-    let expected = block[parts::EXPECTED];
+    let received = front.bytes[parts::RECEIVED];
+    let expected = front.bytes[parts::EXPECTED];
     1 <= received
         && received < expected
         && expected <= 7
-        && expected == packet_count(block[parts::STORE])
-        && all_zero(&block[parts::STORE + 16 * usize::from(received)..parts::PRESET])
+        && expected == packet_count(front.bytes[parts::STORE])
+        && all_zero(&front.bytes[parts::STORE + 16 * usize::from(received)..parts::PRESET])
 }

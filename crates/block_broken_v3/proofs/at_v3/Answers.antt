@@ -1,11 +1,10 @@
--- The stage's number picks what is asked; a lent block is bytes.
+-- The stage's number picks what is asked.
 use borrow.Author.Tests.{lt-leb}
 use native.Mathlib.Omega.{arith}
 use mathlib.Core.Path.{ap₂, sym, ◌∙◌}
 use lib.ListN.{get_or}
 use Rattle.parts.specs.Parts.{stage_at}
 use Rattle.layout.specs.Block.{stage_of}
-use Rattle.block_receiver.proofs.Bytes.{part_bytes}
 use Rattle.broken.specs.Broken.{between, later, asks3, asks_of, byte_of, lower, lowest}
 use Rattle.broken.proofs.Lowest.{lowest-append}
 use Rattle.block_found.specs.Found.{found_told}
@@ -13,16 +12,16 @@ use Rattle.block_broken_v3.proofs.at_v3.Goals as goal
 
 pub returns-in-0 : goal.returns-in-0
 unfolding asks3 asks_of lowest lower byte_of stage_of
-returns-in-0 c = rw (c.in-0.is, part_bytes c.args.block.now 16 16 (λ i. omega (arith, c.type_inv.block i)) (omega arith)) c.resting.ensures
+returns-in-0 c = rw (c.in-0.is, c.args.front.packet) c.resting.ensures
 
 pub returns-in-1 : goal.returns-in-1
 unfolding asks3 asks_of lowest lower byte_of stage_of
-returns-in-1 c = rw (c.in-1.is, part_bytes c.args.block.now 16 16 (λ i. omega (arith, c.type_inv.block i)) (omega arith)) c.receiving.ensures
+returns-in-1 c = rw (c.in-1.is, c.args.front.packet) c.receiving.ensures
 
 pub returns-in-2 : goal.returns-in-2
 unfolding asks3 asks_of lowest lower byte_of stage_of
-returns-in-2 c = rw (c.in-2.is, part_bytes c.args.block.now 16 16 (λ i. omega (arith, c.type_inv.block i)) (omega arith)) (c.lower.ensures ∙ ap₂ lower c.between.ensures c.later.ensures ∙ sym (lowest-append (between c.args.block.now) (later c.args.block.now)))
+returns-in-2 c = rw (c.in-2.is, c.args.front.packet) (c.lower.ensures ∙ ap₂ lower c.between.ensures c.later.ensures ∙ sym (lowest-append (between c.args.front.bytes.now) (later c.args.front.bytes.now)))
 
 pub returns-in_default : goal.returns-in_default
 unfolding asks3 lowest lower byte_of found_told
-returns-in_default c = rw (lt-leb (get_or c.args.block.now stage_at 0) 2 (omega arith))
+returns-in_default c = rw (lt-leb (get_or c.args.front.bytes.now stage_at 0) 2 (omega arith))

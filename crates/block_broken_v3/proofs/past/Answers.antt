@@ -13,13 +13,13 @@ use Rattle.block_broken_v3.proofs.past.Goals as goal
 pub returns-then-received-gt7 : goal.returns-then-received-gt7
 unfolding found_told zero_from lowest
 returns-then-received-gt7 c =
-    let b = c.args.block.now in
+    let b = c.args.front.bytes.now in
     let r = c.args.received in
     let s : length (part store_at store_bytes b) ≤ store_bytes = simp length-take (omega arith) in
     rw (drop_of_length-le (part store_at store_bytes b) {i = 16 * r} (omega arith))
 
 pub returns : goal.returns
 returns c =
-    let b = c.args.block.now in
+    let b = c.args.front.bytes.now in
     let r = c.args.received in
     c.set_in.ensures ∙ rw c.from.ensures (ap (λ l. lowest (zero_from (store_at + 16 * r) l)) (drop-part b store_at store_bytes (16 * r)))

@@ -9,7 +9,7 @@ use Rattle.block_broken_v3.proofs.resting.Goals as goal
 pub returns : goal.returns
 unfolding resting lowest
 returns c =
-    let b = c.args.block.now in
+    let b = c.args.front.bytes.now in
     c.lower.ensures
     ∙ ap₂ lower c.zero_at-3.ensures (c.lower-received.ensures
     ∙ ap₂ lower c.zero_at-2.ensures (c.lower-bits.ensures

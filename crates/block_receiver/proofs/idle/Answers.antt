@@ -10,8 +10,8 @@ use Rattle.block_receiver.proofs.idle.Goals as goal
 
 pub returns-then-all_zero : goal.returns-then-all_zero
 unfolding v3_at load
-returns-then-all_zero c = grind (arith, nat_tests, zero-value (part packet_at packet_bytes c.args.block.now))
+returns-then-all_zero c = grind (arith, nat_tests, zero-value (part packet_at packet_bytes c.args.front.bytes.now))
 
 pub returns-else-all_zero : goal.returns-else-all_zero
 unfolding v3_at load
-returns-else-all_zero c = grind (arith, nat_tests, zero-value (part packet_at packet_bytes c.args.block.now))
+returns-else-all_zero c = grind (arith, nat_tests, zero-value (part packet_at packet_bytes c.args.front.bytes.now))

@@ -8,16 +8,16 @@ use Rattle.block_receiver.proofs.receiving.Goals as goal
 
 pub returns-then-bits-gt128 : goal.returns-then-bits-gt128
 unfolding v3_at load
-returns-then-bits-gt128 c = grind (arith, nat_tests, value-words c.args.block.now 16 (omega arith))
+returns-then-bits-gt128 c = grind (arith, nat_tests, value-words c.args.front.bytes.now 16 (omega arith))
 
-pub returns-then-block-ne0 : goal.returns-then-block-ne0
+pub returns-then-front-ne0 : goal.returns-then-front-ne0
 unfolding v3_at load
-returns-then-block-ne0 c = grind (arith, nat_tests, value-words c.args.block.now 16 (omega arith))
+returns-then-front-ne0 c = grind (arith, nat_tests, value-words c.args.front.bytes.now 16 (omega arith))
 
-pub returns-then-block-eq0 : goal.returns-then-block-eq0
+pub returns-then-front-eq0 : goal.returns-then-front-eq0
 unfolding v3_at load
-returns-then-block-eq0 c = grind (arith, nat_tests, value-words c.args.block.now 16 (omega arith))
+returns-then-front-eq0 c = grind (arith, nat_tests, value-words c.args.front.bytes.now 16 (omega arith))
 
-pub returns-else-block-eq0 : goal.returns-else-block-eq0
+pub returns-else-front-eq0 : goal.returns-else-front-eq0
 unfolding v3_at load
-returns-else-block-eq0 c = grind (arith, nat_tests, value-words c.args.block.now 16 (omega arith))
+returns-else-front-eq0 c = grind (arith, nat_tests, value-words c.args.front.bytes.now 16 (omega arith))

@@ -13,9 +13,9 @@ use Rattle.block_receiver.proofs.some_in.Goals as goal
 pub returns-then-expected-packet_count : goal.returns-then-expected-packet_count
 unfolding later load
 returns-then-expected-packet_count c =
-    let b = c.args.block.now in
+    let b = c.args.front.bytes.now in
     grind (arith, nat_tests, get_or-part store_at store_bytes b 0 (lit< tt), drop-part b store_at store_bytes (16 * get_or b received_at 0))
 
 pub returns-else-expected-packet_count : goal.returns-else-expected-packet_count
 unfolding later load
-returns-else-expected-packet_count c = grind (arith, nat_tests, get_or-part store_at store_bytes c.args.block.now 0 (lit< tt))
+returns-else-expected-packet_count c = grind (arith, nat_tests, get_or-part store_at store_bytes c.args.front.bytes.now 0 (lit< tt))

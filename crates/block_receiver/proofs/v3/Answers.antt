@@ -1,4 +1,4 @@
--- The stage's number picks the row of V3 (RULES 1.8); a lent block is bytes.
+-- The stage's number picks the row of V3 (RULES 1.8).
 use borrow.Author.Tests.{lt-leb}
 use native.Mathlib.Omega.{arith}
 use lib.ListN.{get_or}
@@ -6,21 +6,20 @@ use Rattle.parts.specs.Parts.{stage_at}
 use Rattle.layout.specs.Block.{load, stage_of}
 use Rattle.layout.specs.Valid.{v3}
 use Rattle.receiver.specs.Valid as receiver
-use Rattle.block_receiver.proofs.Bytes.{part_bytes}
 use Rattle.block_receiver.proofs.v3.Goals as goal
 
 pub returns-in-0 : goal.returns-in-0
 unfolding v3 load stage_of receiver.v3 receiver.v3_at
-returns-in-0 c = rw (c.in-0.is, part_bytes c.args.block.now 16 16 (λ i. omega (arith, c.type_inv.block i)) (omega arith)) c.idle.ensures
+returns-in-0 c = rw (c.in-0.is, c.args.front.packet) c.idle.ensures
 
 pub returns-in-1 : goal.returns-in-1
 unfolding v3 load stage_of receiver.v3 receiver.v3_at
-returns-in-1 c = rw (c.in-1.is, part_bytes c.args.block.now 16 16 (λ i. omega (arith, c.type_inv.block i)) (omega arith)) c.receiving.ensures
+returns-in-1 c = rw (c.in-1.is, c.args.front.packet) c.receiving.ensures
 
 pub returns-in-2 : goal.returns-in-2
 unfolding v3 load stage_of receiver.v3 receiver.v3_at
-returns-in-2 c = rw (c.in-2.is, part_bytes c.args.block.now 16 16 (λ i. omega (arith, c.type_inv.block i)) (omega arith)) c.awaiting.ensures
+returns-in-2 c = rw (c.in-2.is, c.args.front.packet) c.awaiting.ensures
 
 pub returns-in_default : goal.returns-in_default
 unfolding v3
-returns-in_default c = rw (lt-leb (get_or c.args.block.now stage_at 0) 2 (omega arith))
+returns-in_default c = rw (lt-leb (get_or c.args.front.bytes.now stage_at 0) 2 (omega arith))

@@ -4,10 +4,10 @@ use Rattle.std.proofs.lemmas.Bool.Decides.{nat_tests}
 use Rattle.layout.specs.Valid.{v5}
 use Rattle.block_valid.proofs.v5.Goals as goal
 
-pub returns-then-block-ne0 : goal.returns-then-block-ne0
+pub returns-then-front-ne0 : goal.returns-then-front-ne0
 unfolding v5
-returns-then-block-ne0 c = grind (arith, nat_tests)
+returns-then-front-ne0 c = grind (arith, nat_tests)
 
-pub returns-else-block-ne0 : goal.returns-else-block-ne0
+pub returns-else-front-ne0 : goal.returns-else-front-ne0
 unfolding v5
-returns-else-block-ne0 c = grind (arith, nat_tests)
+returns-else-front-ne0 c = grind (arith, nat_tests)
