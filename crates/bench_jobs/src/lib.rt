@@ -11,6 +11,7 @@ ghost use Rattle.block_picture.specs.Drawn.{parts_of};
 ghost use Rattle.log_chunks.specs.Steps.{left};
 ghost use Rattle.log_reader.specs.Fed.{chunk_bytes, out_bytes};
 
+use block_picture::of_block::ValidBlock;
 use log_chunks::Desk;
 use log_reader::{CHUNK_BYTES, OUT_BYTES};
 use log_reading::Reading;
@@ -145,7 +146,7 @@ fn picture(block: &[u8], words: &mut [u16], text: &mut [u8])
         border: [0; 48],
         game: [0; 16],
     };
-    block_picture::tables(block, &mut tables);
+    block_picture::tables(ValidBlock { bytes: block }, &mut tables);
     rows(block, &tables, words, text);
 }
 

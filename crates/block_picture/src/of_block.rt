@@ -9,97 +9,95 @@ ghost use Rattle.block_picture.specs.Drawn.{parts_of};
 use picture_runs::drawing::PictureParts;
 use screen::Colours;
 
-// What the colours of the screen come from.
-pub fn colours(block: &[u8]) -> Colours<'_>
-    requires { Valid block.now }
-    ensures of_palettes { (result.palettes.now ≡ (parts_of (load block.now)).palettes) × (result.preset.now ≡ (parts_of (load block.now)).preset) }
-    ensures of_byte { result.in_force ≡ (parts_of (load block.now)).in_force }
-{
-    Colours {
-        palettes: palettes(block),
-        preset: preset(block),
-        in_force: in_force(block),
+// A valid block, lent: the contracts of what looks at one need not say again that it is valid.
+#[derive(Clone, Copy)]
+pub struct ValidBlock<'a> {
+    pub bytes: &'a [u8],
+    pub ghost valid: { Valid bytes.now },
+}
+
+impl<'a> ValidBlock<'a> {
+    // What the colours of the screen come from.
+    pub fn colours(self) -> Colours<'a>
+        ensures of_palettes { (result.palettes.now ≡ (parts_of (load self.entry.bytes.now)).palettes) × (result.preset.now ≡ (parts_of (load self.entry.bytes.now)).preset) }
+        ensures of_byte { result.in_force ≡ (parts_of (load self.entry.bytes.now)).in_force }
+    {
+        Colours {
+            palettes: self.palettes(),
+            preset: self.preset(),
+            in_force: self.in_force(),
+        }
     }
-}
 
-// What the runs of a row are drawn from.
-pub fn drawn(block: &[u8]) -> PictureParts<'_>
-    requires { Valid block.now }
-    ensures of_border { (result.tiles.now ≡ (parts_of (load block.now)).tiles) × (result.map.now ≡ (parts_of (load block.now)).map) }
-    ensures of_screen { (result.attributes.now ≡ (parts_of (load block.now)).attributes) × (result.screen.now ≡ (parts_of (load block.now)).screen) }
-{
-    PictureParts {
-        tiles: tiles(block),
-        map: map(block),
-        attributes: attributes(block),
-        screen: shown(block),
+    // What the runs of a row are drawn from.
+    pub fn drawn(self) -> PictureParts<'a>
+        ensures of_border { (result.tiles.now ≡ (parts_of (load self.entry.bytes.now)).tiles) × (result.map.now ≡ (parts_of (load self.entry.bytes.now)).map) }
+        ensures of_screen { (result.attributes.now ≡ (parts_of (load self.entry.bytes.now)).attributes) × (result.screen.now ≡ (parts_of (load self.entry.bytes.now)).screen) }
+    {
+        PictureParts {
+            tiles: self.tiles(),
+            map: self.map(),
+            attributes: self.attributes(),
+            screen: self.shown(),
+        }
     }
-}
 
-pub fn palettes(block: &[u8]) -> &[u8]
-    requires { Valid block.now }
-    ensures { (result.now ≡ (parts_of (load block.now)).palettes) × (length result.now ≡ palettes_bytes) }
-{
-    &block[parts::PALETTES..parts::MAP]
-}
+    pub fn palettes(self) -> &'a [u8]
+        ensures { (result.now ≡ (parts_of (load self.entry.bytes.now)).palettes) × (length result.now ≡ palettes_bytes) }
+    {
+        &self.bytes[parts::PALETTES..parts::MAP]
+    }
 
-pub fn preset(block: &[u8]) -> &[u8]
-    requires { Valid block.now }
-    ensures { (result.now ≡ (parts_of (load block.now)).preset) × (length result.now ≡ preset_bytes) }
-{
-    &block[parts::PRESET..parts::PALETTES]
-}
+    pub fn preset(self) -> &'a [u8]
+        ensures { (result.now ≡ (parts_of (load self.entry.bytes.now)).preset) × (length result.now ≡ preset_bytes) }
+    {
+        &self.bytes[parts::PRESET..parts::PALETTES]
+    }
 
-pub fn in_force(block: &[u8]) -> bool
-    requires { Valid block.now }
-    ensures { result ≡ (parts_of (load block.now)).in_force }
-{
-    block[parts::PRESET_ON] == 1
-}
+    pub fn in_force(self) -> bool
+        ensures { result ≡ (parts_of (load self.entry.bytes.now)).in_force }
+    {
+        self.bytes[parts::PRESET_ON] == 1
+    }
 
-pub fn attributes(block: &[u8]) -> &[u8]
-    requires { Valid block.now }
-    ensures { (result.now ≡ (parts_of (load block.now)).attributes) × (length result.now ≡ map_bytes) }
-{
-    &block[parts::MAP..parts::SYSTEM]
-}
+    pub fn attributes(self) -> &'a [u8]
+        ensures { (result.now ≡ (parts_of (load self.entry.bytes.now)).attributes) × (length result.now ≡ map_bytes) }
+    {
+        &self.bytes[parts::MAP..parts::SYSTEM]
+    }
 
-pub fn mode(block: &[u8]) -> u8
-    requires { Valid block.now }
-    ensures { result ≡ (parts_of (load block.now)).mode }
-{
-    block[parts::MASK]
-}
+    pub fn mode(self) -> u8
+        ensures { result ≡ (parts_of (load self.entry.bytes.now)).mode }
+    {
+        self.bytes[parts::MASK]
+    }
 
-// The capture that is displayed.
-pub fn shown(block: &[u8]) -> &[u8]
-    requires { Valid block.now }
-    ensures { (result.now ≡ (parts_of (load block.now)).screen) × (length result.now ≡ capture_bytes) }
-{
-    screen::displayed_screen(
-        &block[parts::LIVE..parts::FROZEN],
-        &block[parts::FROZEN..parts::TILES],
-        mode(block),
-    )
-}
+    // The capture that is displayed.
+    pub fn shown(self) -> &'a [u8]
+        ensures { (result.now ≡ (parts_of (load self.entry.bytes.now)).screen) × (length result.now ≡ capture_bytes) }
+    {
+        screen::displayed_screen(
+            &self.bytes[parts::LIVE..parts::FROZEN],
+            &self.bytes[parts::FROZEN..parts::TILES],
+            self.mode(),
+        )
+    }
 
-pub fn tiles(block: &[u8]) -> &[u8]
-    requires { Valid block.now }
-    ensures { (result.now ≡ (parts_of (load block.now)).tiles) × (length result.now ≡ tiles_bytes) }
-{
-    &block[parts::TILES..parts::BORDER_MAP]
-}
+    pub fn tiles(self) -> &'a [u8]
+        ensures { (result.now ≡ (parts_of (load self.entry.bytes.now)).tiles) × (length result.now ≡ tiles_bytes) }
+    {
+        &self.bytes[parts::TILES..parts::BORDER_MAP]
+    }
 
-pub fn map(block: &[u8]) -> &[u8]
-    requires { Valid block.now }
-    ensures { (result.now ≡ (parts_of (load block.now)).map) × (length result.now ≡ border_map_bytes) }
-{
-    &block[parts::BORDER_MAP..parts::BORDER_PALETTES]
-}
+    pub fn map(self) -> &'a [u8]
+        ensures { (result.now ≡ (parts_of (load self.entry.bytes.now)).map) × (length result.now ≡ border_map_bytes) }
+    {
+        &self.bytes[parts::BORDER_MAP..parts::BORDER_PALETTES]
+    }
 
-pub fn borders(block: &[u8]) -> &[u8]
-    requires { Valid block.now }
-    ensures { (result.now ≡ (parts_of (load block.now)).borders) × (length result.now ≡ border_palettes_bytes) }
-{
-    &block[parts::BORDER_PALETTES..parts::BLOCK]
+    pub fn borders(self) -> &'a [u8]
+        ensures { (result.now ≡ (parts_of (load self.entry.bytes.now)).borders) × (length result.now ≡ border_palettes_bytes) }
+    {
+        &self.bytes[parts::BORDER_PALETTES..parts::BLOCK]
+    }
 }

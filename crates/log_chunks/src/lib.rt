@@ -17,6 +17,7 @@ ghost use Rattle.block_picture.specs.Drawn.{parts_of};
 ghost use Rattle.log_chunks.specs.Texts.{shown, head_bytes, head_line};
 ghost use Rattle.bits.specs.Over.{over};
 
+use block_picture::of_block::ValidBlock;
 use block_screen::show;
 use block_writes::play;
 use log_line::lines::{Held, split};
@@ -256,7 +257,7 @@ pub fn head_line(block: &[u8], out: &mut [u8]) -> usize
 }
 
 // A row of the picture as `plate` prints it, at the front of `out`, from the tables of the block's picture.
-// Stays: that the block is valid is a clause, as in the worker `block_picture::row_from` that it calls.
+// Stays: that the block is valid is a clause, as `Fit` tells it of `desk.block`. A `ValidBlock` is made of it here; handed down it tells no more.
 pub fn row_line(block: &[u8], tables: &PictureTables, y: usize, words: &mut [u16], out: &mut [u8])
     requires valid { Valid block.now × (y < 224) }
     requires tables_of { TablesOf (parts_of (load block.now)) tables.now.spreads tables.now.border tables.now.game }
@@ -264,6 +265,6 @@ pub fn row_line(block: &[u8], tables: &PictureTables, y: usize, words: &mut [u16
     ensures words_after { words.new ≡ row_of (parts_of (load block.now)) y }
     ensures out_after { out.new ≡ over 0 1025 (row_line (row_of (parts_of (load block.now)) y)) out.old }
 {
-    block_picture::row_from(block, tables, y, words);
+    block_picture::row_from(ValidBlock { bytes: block }, tables, y, words);
     log_text::row_line(words, out);
 }

@@ -1,7 +1,7 @@
 // All that the program `plate` prints of a log: the picture at its end, or the first refused line alone.
 // The reading is in `log_reader`, the writing in `log_writer`.
-// Stays: that the block is valid is a clause. docs/PROOFS.md names these workers over a block's bytes, and a struct around them would be made anew at
-// each call.
+// Stays: that the block is valid is a clause, as the reading's `Fit` tells it of `desk.block`. A `ValidBlock` is made of it where tables and rows are
+// drawn; handed down it tells no more.
 #![tactic(auto)]
 
 ghost use Rattle.std.specs.Prelude.{List, ◌≡◌, ℕ, ◌-◌, ◌≤◌, length, is_ok};
@@ -16,6 +16,7 @@ ghost use Rattle.log_reader.specs.Fed.{chunk_bytes, out_bytes};
 ghost use Rattle.log_reader.specs.Read.{Printed};
 ghost use Rattle.log_plate.specs.Closed.{Closed};
 
+use block_picture::of_block::ValidBlock;
 use log_chunks::Desk;
 use log_reader::{Print, Read};
 use log_writer::{Failed, Printer, State, write_out};
@@ -65,7 +66,7 @@ fn picture(printer: &mut Printer, block: &[u8], out: &mut [u8]) -> Result<(), Fa
         border: [0; 48],
         game: [0; 16],
     };
-    block_picture::tables(block, &mut tables);
+    block_picture::tables(ValidBlock { bytes: block }, &mut tables);
     let mut words = [0u16; 256];
     rows(printer, block, &tables, &mut words, out)
 }

@@ -1,7 +1,6 @@
 // All that the program `replay` prints of a log: its commands and refused lines as they are read, and at its end the block's first 13 bytes.
 // The reading is in `log_reader`, the writing in `log_writer`.
-// Stays: that the block is valid is a clause. docs/PROOFS.md names these workers over a block's bytes, and a struct around them would be made anew at
-// each call.
+// Stays: that the block is valid is a clause of one function, as the reading's `Fit` tells it of `desk.block`. A struct for it tells no more.
 #![tactic(auto)]
 
 ghost use Rattle.std.specs.Prelude.{List, ◌≡◌, ℕ, length, is_ok};

@@ -8,6 +8,7 @@ ghost use Rattle.pages.specs.Pixels.{page_screen_left};
 ghost use Rattle.block_picture.specs.Drawn.{row_drawn, picture_drawn};
 
 use super::calls::{count, number};
+use block_picture::of_block::ValidBlock;
 use transfer::pending::{Pending, Transfer};
 
 #[unsafe(no_mangle)]
@@ -150,7 +151,7 @@ pub extern "C" fn probe_row(block: &[u8], y: usize, out: &mut [u16])
     requires y_bound { (y < 224) × (256 ≤ length out.old) }
     ensures { out.new ≡ row_drawn block.now y out.old }
 {
-    block_picture::draw_row(block, y, out);
+    block_picture::draw_row(ValidBlock { bytes: block }, y, out);
 }
 
 #[unsafe(no_mangle)]
@@ -159,5 +160,5 @@ pub extern "C" fn probe_picture(block: &[u8], out: &mut [u16])
     requires in_bounds { 57344 ≤ length out.old }
     ensures { out.new ≡ picture_drawn block.now out.old }
 {
-    block_picture::draw_picture(block, out);
+    block_picture::draw_picture(ValidBlock { bytes: block }, out);
 }

@@ -1,7 +1,7 @@
 -- The refusals that every call gives first, once for all calls: the number is not 0 exactly where a refusal stands in the answer.
 use Prim.Native.Nat.{ℕ}
 use native.Mathlib.Omega.{arith}
-use mathlib.Core.Path.{◌≡◌, sym, ap, ◌∙◌, refl}
+use mathlib.Core.Path.{◌≡◌, sym, ap, ◌∙◌, refl, subst}
 use mathlib.Core.Bool.{Bool, true, false, cond, ◌&&◌}
 use mathlib.Core.List.{List}
 use lib.Dec.{eqb}
@@ -62,6 +62,10 @@ accepts b r e z = go (eqb (length b) block_bytes) (valid b) refl refl (sym e ∙
 pub answers : {A : Type 0} (b : List ℕ) (a : Answer A) → Valid b → a ≡ refusing b a
 unfolding refusing
 answers b a v = rw (eq-eqb (length b) block_bytes v.long, v.tested)
+
+-- of the bytes that are known to be valid, which are the block's
+pub answers_of : {A : Type 0} (v b : List ℕ) (f : List ℕ → Answer A) → v ≡ b → Valid v → f v ≡ refusing b (f b)
+answers_of v b f e k = ap f e ∙ answers b (f b) (subst Valid e k)
 
 -- ---- what the number tells who checks a block: 0, 1, or a rule with its byte. RULES 1.15 and 2.1
 

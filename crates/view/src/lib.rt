@@ -5,13 +5,14 @@
 // `block_picture`, which takes a valid block and refuses nothing; whoever looks at one block many times asks `check` once and then the workers.
 #![tactic(auto)]
 
-ghost use Rattle.std.specs.Prelude.{◌≡◌};
-ghost use Rattle.refusal.specs.Codes.{code_or_0};
+ghost use Rattle.std.specs.Prelude.{◌≡◌, IfOk, IfErr};
+ghost use Rattle.refusal.specs.Codes.{code_of, code_or_0};
 ghost use Rattle.view.specs.Refusal.{refusal_of};
 ghost use Rattle.block_picture.specs.Drawn.{row_drawn, picture_drawn};
 ghost use Rattle.view.specs.Looks.{mode_of, backdrop_answer, shade_answer, entry_answer, border_answer, row_answer, picture_answer, leaves};
 ghost use Rattle.view.specs.Answers.{number_told, colour_told, entry_told, border_told};
 
+use block_picture::of_block::ValidBlock;
 use colour::{BorderMapEntry, Rgb555};
 use refusal::Refusal;
 
@@ -25,18 +26,27 @@ pub fn check(block: &[u8]) -> Result<(), Refusal>
     block_broken::broken(block)
 }
 
+// The block, once it is known to be valid.
+fn valid(block: &[u8]) -> Result<ValidBlock<'_>, Refusal>
+    ensures ok { IfOk result (λ v. v.bytes.now ≡ block.now) }
+    ensures err { IfErr result (λ r. code_of r ≡ refusal_of block.now) }
+{
+    check(block)?;
+    Ok(ValidBlock { bytes: block })
+}
+
 pub fn mask_mode(block: &[u8]) -> Result<usize, Refusal>
     ensures { number_told result ≡ mode_of block.now }
 {
-    check(block)?;
-    Ok(usize::from(block_picture::of_block::mode(block)))
+    let block = valid(block)?;
+    Ok(usize::from(block.mode()))
 }
 
 // The colour of everything that nothing covers.
 pub fn backdrop(block: &[u8]) -> Result<Rgb555, Refusal>
     ensures { colour_told result ≡ backdrop_answer block.now }
 {
-    check(block)?;
+    let block = valid(block)?;
     Ok(block_picture::backdrop(block))
 }
 
@@ -44,7 +54,7 @@ pub fn backdrop(block: &[u8]) -> Result<Rgb555, Refusal>
 pub fn color_at(block: &[u8], x: usize, y: usize, shade: u8) -> Result<Rgb555, Refusal>
     ensures { colour_told result ≡ shade_answer block.now x y shade }
 {
-    check(block)?;
+    let block = valid(block)?;
     if x >= 160 || y >= 144 || shade > 3 {
         return Err(Refusal::Place);
     }
@@ -55,7 +65,7 @@ pub fn color_at(block: &[u8], x: usize, y: usize, shade: u8) -> Result<Rgb555, R
 pub fn map_entry(block: &[u8], column: usize, row: usize) -> Result<BorderMapEntry, Refusal>
     ensures { entry_told result ≡ entry_answer block.now column row }
 {
-    check(block)?;
+    let block = valid(block)?;
     if column >= 32 || row >= 28 {
         return Err(Refusal::Place);
     }
@@ -66,7 +76,7 @@ pub fn map_entry(block: &[u8], column: usize, row: usize) -> Result<BorderMapEnt
 pub fn border_color_at(block: &[u8], x: usize, y: usize) -> Result<Option<Rgb555>, Refusal>
     ensures { border_told result ≡ border_answer block.now x y }
 {
-    check(block)?;
+    let block = valid(block)?;
     if x >= 256 || y >= 224 {
         return Err(Refusal::Place);
     }
@@ -78,7 +88,7 @@ pub fn row(block: &[u8], y: usize, out: &mut [u16]) -> Result<usize, Refusal>
     ensures result_value { number_told result ≡ row_answer block.now y out.old }
     ensures out_after { out.new ≡ leaves (row_answer block.now y out.old) (row_drawn block.now y out.old) out.old }
 {
-    check(block)?;
+    let block = valid(block)?;
     if y >= 224 {
         return Err(Refusal::Place);
     }
@@ -94,7 +104,7 @@ pub fn picture(block: &[u8], out: &mut [u16]) -> Result<usize, Refusal>
     ensures result_value { number_told result ≡ picture_answer block.now out.old }
     ensures out_after { out.new ≡ leaves (picture_answer block.now out.old) (picture_drawn block.now out.old) out.old }
 {
-    check(block)?;
+    let block = valid(block)?;
     if out.len() < 57344 {
         return Err(Refusal::Output);
     }

@@ -11,5 +11,5 @@ pub returns : goal.returns
 unfolding picture_drawn
 returns c =
     let d = c.drawn.ensures in
-    picture-is (parts_of (load c.args.block.now)) _ _ _ c.tables.ensures d.of_border.0 d.of_border.1 d.of_screen.0 d.of_screen.1
+    picture-is (parts_of (load c.args.block.bytes.now)) _ _ _ c.tables.ensures d.of_border.0 d.of_border.1 d.of_screen.0 d.of_screen.1
     _ _ c.picture.ensures c.requires.in_bounds

@@ -11,5 +11,5 @@ pub returns : goal.returns
 unfolding row_drawn
 returns c =
     let d = c.drawn.ensures in
-    row_is (parts_of (load c.args.block.now)) _ _ _ c.requires.tables_of d.of_border.0 d.of_border.1 d.of_screen.0 d.of_screen.1
+    row_is (parts_of (load c.args.block.bytes.now)) _ _ _ c.requires.tables_of d.of_border.0 d.of_border.1 d.of_screen.0 d.of_screen.1
     c.args.y _ _ c.row.ensures c.requires.y_bound.1

@@ -6,7 +6,7 @@ use Rattle.log_chunks.proofs.row_line.Goals as goal
 pub row_from-requires : goal.row_from-requires
 row_from-requires c =
     let p = c.requires in
-    record { valid = p.valid.0; tables_of = p.tables_of; y_bound = (p.valid.1, omega (arith, p.words_len.0)) }
+    record { tables_of = p.tables_of; y_bound = (p.valid.1, omega (arith, p.words_len.0)) }
 
 pub returns : goal.returns
 returns c =

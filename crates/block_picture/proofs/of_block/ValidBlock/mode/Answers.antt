@@ -2,8 +2,8 @@
 use lib.Dec.{lit<}
 use Rattle.block_picture.specs.Drawn.{parts_of}
 use Rattle.block_picture.proofs.Lent.{header-lent}
-use Rattle.block_picture.proofs.of_block.mode.Goals as goal
+use Rattle.block_picture.proofs.of_block.ValidBlock.mode.Goals as goal
 
 pub returns : goal.returns
 unfolding parts_of
-returns c = header-lent c.args.block.now c.requires 0 (lit< tt)
+returns c = header-lent c.args.self.bytes.now c.args.self.valid 0 (lit< tt)

@@ -2,8 +2,8 @@
 use lib.Dec.{lit<, lit≤}
 use Rattle.block_picture.specs.Drawn.{parts_of}
 use Rattle.block_picture.proofs.Lent.{lent}
-use Rattle.block_picture.proofs.of_block.map.Goals as goal
+use Rattle.block_picture.proofs.of_block.ValidBlock.map.Goals as goal
 
 pub returns : goal.returns
 unfolding parts_of
-returns c = lent c.args.block.now c.requires 11 (lit< tt) (lit≤ tt)
+returns c = lent c.args.self.bytes.now c.args.self.valid 11 (lit< tt) (lit≤ tt)
