@@ -84,12 +84,15 @@ fn spread(x: u8) -> u8
 }
 
 // All of src into dst, from `at` on.
-// Stays: a place beside what is lent, since `over at` is what every contract of a part that is written cites.
+// Stays: a place beside what is lent, since `over at` is what every contract of a part that is written cites; and byte by byte, since
+// the library's copy makes the archive for C want memmove from outside, beside memcpy.
 pub fn put(dst: &mut [u8], at: usize, src: &[u8])
     requires { at + length src.now ≤ length dst.old }
     ensures { dst.new ≡ over at (length src.now) src.now dst.old }
 {
-    dst[at..at + src.len()].copy_from_slice(src);
+    for i in 0..src.len() {
+        dst[at + i] = src[i];
+    }
 }
 
 // Nothing but zeros into s.

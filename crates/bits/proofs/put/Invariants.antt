@@ -1,0 +1,6 @@
+use mathlib.Core.Path.{◌≡◌}
+use lib.Seq.{paste}
+use Rattle.bits.proofs.put.Given as goal
+
+abbrev pub invariant-loop-i : goal.invariant-loop-i
+invariant-loop-i l = l.dst ≡ paste l.initial.dst l.at l.src l.i
