@@ -83,4 +83,18 @@ impl Refusal {
             _ => 0,
         }
     }
+
+    // The number in a code, for whoever holds the code alone, as C does: of any code, also of one that no refusal has.
+    pub fn number_in(code: u32) -> u8
+        ensures { result ≡ code % 256 }
+    {
+        (code & 0xFF) as u8
+    }
+
+    // What stands above the number in a code, likewise of any.
+    pub fn offset_in(code: u32) -> usize
+        ensures { result ≡ code / 256 }
+    {
+        (code >> 8) as usize
+    }
 }
