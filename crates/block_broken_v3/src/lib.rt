@@ -10,6 +10,7 @@ ghost use Rattle.broken.specs.Broken as spec;
 ghost use Rattle.block_found.specs.Found.{found_told};
 
 use block_found::{at_most, bits_past, lower, set_in, unless, zero_at};
+use block_receiver::stage;
 use block_valid::Front;
 use receiver::packet_count;
 
@@ -97,7 +98,7 @@ fn receiving(front: Front) -> Option<u16>
 pub fn at_v3(front: Front) -> Option<u16>
     ensures { found_told result ≡ spec.lowest (spec.asks3 front.entry.bytes.now) }
 {
-    match front.bytes[parts::STAGE] {
+    match stage(front.bytes) {
         0 => resting(front),
         1 => receiving(front),
         2 => lower(between(front), later(front)),

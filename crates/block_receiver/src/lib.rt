@@ -2,8 +2,10 @@
 // The meaning is `v3` in the crate `layout`; what it says of each stage is `Valid` in the crate `receiver`.
 #![tactic(auto)]
 
-ghost use Rattle.std.specs.Prelude.{◌≡◌, ◌^◌, ◌≤◌, ltb, length};
-ghost use Rattle.parts.specs.Parts.{block_bytes};
+ghost use Rattle.std.specs.Prelude.{◌≡◌, ◌^◌, ◌≤◌, ltb, length, get_or, true};
+ghost use Rattle.std.proofs.Math.Pow.{are_bytes};
+ghost use Rattle.bits.specs.Over.{part};
+ghost use Rattle.parts.specs.Parts.{block_bytes, stage_at, packet_at, packet_bytes};
 ghost use Rattle.layout.specs.Block.{load};
 ghost use Rattle.layout.specs.Valid as spec;
 ghost use Rattle.receiver.specs.Receive.{words};
@@ -19,12 +21,21 @@ use receiver::packet_count;
 pub fn v3(front: Front) -> bool
     ensures { result ≡ spec.v3 front.entry.bytes.now }
 {
-    match front.bytes[parts::STAGE] {
+    match stage(front.bytes) {
         0 => idle(front),
         1 => receiving(front),
         2 => awaiting(front),
         _ => false,
     }
+}
+
+// The stage's number, of a front that is lent; of that it is then known that the packet is bytes.
+pub fn stage(bytes: &[u8]) -> u8
+    requires { spec.Fronted bytes.now }
+    ensures value { result ≡ get_or bytes.now stage_at 0 }
+    ensures packet { are_bytes (part packet_at packet_bytes bytes.now) ≡ true }
+{
+    bytes[parts::STAGE]
 }
 
 // An idle receiver holds nothing.

@@ -3,21 +3,17 @@
 #![tactic(auto)]
 
 ghost use Rattle.std.specs.Prelude.{◌≡◌, true, cond, length};
-ghost use Rattle.std.proofs.Math.Pow.{are_bytes};
-ghost use Rattle.bits.specs.Over.{part};
-ghost use Rattle.parts.specs.Parts.{block_bytes, packet_at, packet_bytes};
+ghost use Rattle.parts.specs.Parts.{block_bytes};
 ghost use Rattle.layout.specs.Block.{is_set};
 ghost use Rattle.layout.specs.Valid as spec;
 
 use bits::all_zero;
 
 // What V1 to V5 are tested of, and what their bytes are looked for in: a block, or its front alone, which is all before the palettes.
-// That the packet is bytes is so of all that is lent; V3 asks it, since a number stands for the packet.
 #[derive(Clone, Copy)]
 pub struct Front<'a> {
     pub bytes: &'a [u8],
     pub ghost fronted: { spec.Fronted bytes.now },
-    pub ghost packet: { are_bytes (part packet_at packet_bytes bytes.now) ≡ true },
 }
 
 // Mask mode and joypad mask are 3 or less, and the mask has every bit that the index has.

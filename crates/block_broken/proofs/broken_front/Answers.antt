@@ -1,14 +1,9 @@
--- Past each rule whose test holds; the byte of the first that fails. A lent block is bytes.
-use native.Mathlib.Omega.{arith}
+-- Past each rule whose test holds; the byte of the first that fails.
 use mathlib.Core.List.{[]}
 use mathlib.Core.Path.{ap, sym, ◌∙◌}
 use Rattle.broken.specs.Broken.{number_of}
 use Rattle.broken.proofs.Numbers.{told-1, told-2, told-3, told-4, told-5, told_none}
-use Rattle.block_receiver.proofs.Bytes.{part_bytes}
 use Rattle.block_broken.proofs.broken_front.Goals as goal
-
-pub invariant_of-front-clause-packet : goal.invariant_of-front-clause-packet
-invariant_of-front-clause-packet c = part_bytes c.args.block.now 16 16 (λ i. omega (arith, c.type_inv.block i)) (omega arith)
 
 pub returns-then-not-v1 : goal.returns-then-not-v1
 returns-then-not-v1 c =
