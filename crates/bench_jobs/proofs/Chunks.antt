@@ -5,8 +5,7 @@ use mathlib.Core.Path.{◌≡◌, subst⁻¹}
 use native.Mathlib.Omega.{arith}
 use lib.ListN.{length, take, drop, length-take, length-drop}
 use Rattle.layout.specs.Fresh.{post_boot}
-use Rattle.log_chunks.specs.declared.Desk.{Desk}
-use Rattle.log_chunks.specs.Steps.{desk, begun, Fit, Full, left}
+use Rattle.log_chunks.specs.Steps.{Desk, desk, begun, Fit, Full, left}
 use Rattle.log_chunks.specs.declared.Filled.{Filled}
 use Rattle.log_reading.specs.declared.Reading.{Reading}
 use Rattle.log_chunks.proofs.Fulls.{full-fit, full-within, full-numbered, full-less}

@@ -11,10 +11,12 @@ ghost use Rattle.block_picture.specs.Drawn.{parts_of};
 ghost use Rattle.log_chunks.specs.Steps.{left};
 ghost use Rattle.log_reader.specs.Fed.{chunk_bytes, out_bytes};
 
+use bits::put;
 use block_picture::of_block::ValidBlock;
 use log_chunks::Desk;
 use log_reader::{CHUNK_BYTES, OUT_BYTES};
 use log_reading::Reading;
+use parts::STORE_BYTES;
 use picture_runs::drawing::PictureTables;
 
 // A row of the picture as text, and all of them.
@@ -57,8 +59,24 @@ pub extern "C" fn jobs_play(block: &mut [u8], writes: &[u8], command: &mut [u8])
 // What `replay` prints of a log, or what `plate` does where that is 1 and no line is refused; its rows go by way of the lent words. Answers
 // the text's length, or 0 if a lent part has not the length that it must have or the text has no room.
 #[unsafe(no_mangle)]
-pub extern "C" fn jobs_print(plate: u8, input: &[u8], words: &mut [u16], text: &mut [u8]) -> usize {
-    if input.len() > 0xFFFFFFFF || words.len() != 256 || text.len() < PLATE {
+pub extern "C" fn jobs_print(
+    plate: u8,
+    input: &[u8],
+    block: &mut [u8],
+    line: &mut [u8],
+    bytes: &mut [u8],
+    command: &mut [u8],
+    words: &mut [u16],
+    text: &mut [u8],
+) -> usize {
+    if input.len() > 0xFFFFFFFF
+        || block.len() != parts::BLOCK
+        || line.len() != log_line::LINE_DIGITS
+        || bytes.len() != parts::CAPTURE_BYTES
+        || command.len() != parts::STORE_BYTES
+        || words.len() != 256
+        || text.len() < PLATE
+    {
         return 0;
     }
     let mut desk = Desk {
@@ -67,14 +85,21 @@ pub extern "C" fn jobs_print(plate: u8, input: &[u8], words: &mut [u16], text: &
         bytes: [0; parts::CAPTURE_BYTES],
         command: [0; parts::STORE_BYTES],
     };
+    put(&mut desk.line, 0, line);
+    put(&mut desk.bytes, 0, bytes);
+    put(&mut desk.command, 0, command);
     let prints = Prints::from(plate);
     let n = read_log(input, &mut desk, text, prints);
-    finish(prints, &desk.block, words, text, n)
+    put(block, 0, &desk.block);
+    put(line, 0, &desk.line);
+    put(bytes, 0, &desk.bytes);
+    put(command, 0, &desk.command);
+    finish(prints, block, words, text, n)
 }
 
 // All of a log, a chunk at a time, from a fresh unit on. The text of each fill stands behind the one before, or in its place where none
 // is kept. Answers the length of what is kept; it stops where the next fill has no room.
-fn read_log(input: &[u8], desk: &mut Desk, text: &mut [u8], prints: Prints) -> usize
+fn read_log(input: &[u8], desk: &mut Desk<STORE_BYTES>, text: &mut [u8], prints: Prints) -> usize
     requires { length input.now < 4294967296 }
     ensures { Valid desk.new.block × (result ≤ length text.old) }
 {

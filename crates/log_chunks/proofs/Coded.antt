@@ -40,8 +40,7 @@ use Rattle.refusal.specs.declared.Refusal.{Refusal}
 use Rattle.refusal.specs.Codes.{code_of}
 use Rattle.std.specs.Prelude as code
 use Rattle.std.specs.Prelude.{Result, Ok, Err}
-use Rattle.log_chunks.specs.declared.Desk.{Desk}
-use Rattle.log_chunks.specs.Steps.{desk, pending, told_of, ran_on, played_to, answer_of, next_line, ended_as, ended, told_by, ToldFits, goes_on, step_room, left}
+use Rattle.log_chunks.specs.Steps.{Desk, desk, pending, told_of, ran_on, played_to, answer_of, next_line, ended_as, ended, told_by, ToldFits, goes_on, step_room, left}
 use Rattle.log_reading.specs.declared.Reading.{Reading}
 use Rattle.log_chunks.specs.declared.Step.{Step}
 use Rattle.log_chunks.specs.declared.Told.{Told}

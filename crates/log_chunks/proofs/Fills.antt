@@ -11,8 +11,7 @@ use Rattle.bits.proofs.Tests.{either, and_left, and_right}
 use Rattle.layout.specs.Sgb.{Sgb}
 use Rattle.log_chunks.specs.Events.{Event}
 use Rattle.log_chunks.specs.Texts.{shown}
-use Rattle.log_chunks.specs.declared.Desk.{Desk}
-use Rattle.log_chunks.specs.Steps.{Stepped, ran_on, played_to, stepped, events_on, goes_on, step_room, Filling, next_by, next, fills, fill, left, to_tell, to_end, Fit}
+use Rattle.log_chunks.specs.Steps.{Desk, Stepped, ran_on, played_to, stepped, events_on, goes_on, step_room, Filling, next_by, next, fills, fill, left, to_tell, to_end, Fit}
 use Rattle.log_reading.specs.declared.Reading.{Reading}
 use Rattle.log_chunks.proofs.Tells.{ran-tells, ran_ends}
 use Rattle.log_chunks.proofs.Takes.{took-tells, took-ends}

@@ -6,8 +6,7 @@ use Prim.Native.Nat.{ℕ, ◌+◌, ◌≤◌, ◌<◌}
 use native.Mathlib.Omega.{arith}
 use lib.ListN.{length}
 use Rattle.log_reading.specs.declared.Reading.{Reading}
-use Rattle.log_chunks.specs.declared.Desk.{Desk}
-use Rattle.log_chunks.specs.Steps.{Filling, fill, filled_to, Full, left, step_room, Fit}
+use Rattle.log_chunks.specs.Steps.{Desk, Filling, fill, filled_to, Full, left, step_room, Fit}
 use Rattle.log_chunks.specs.declared.Filled.{Filled}
 use Rattle.log_chunks.specs.Texts.{shown}
 use Rattle.log_chunks.proofs.Fills.{FillKeeps, fill-keeps, fill-less}

@@ -24,8 +24,7 @@ use Rattle.log_line.specs.Lines.{meaning_marked}
 use Rattle.log_line.specs.Split.{held_as, taken, took_held, took_line, up_to_lf, lf_at}
 use Rattle.log_line.specs.Calls.{filled}
 use Rattle.log_line.proofs.Splitting.{lf-within, took-fits, length-took}
-use Rattle.log_chunks.specs.declared.Desk.{Desk}
-use Rattle.log_chunks.specs.Steps.{Stepped, pending, played_to, ran_on, ended_as, ended, took, took_on, stepped, holding, with_line, left, Fit}
+use Rattle.log_chunks.specs.Steps.{Desk, Stepped, pending, played_to, ran_on, ended_as, ended, took, took_on, stepped, holding, with_line, left, Fit}
 use Rattle.log_reading.specs.declared.Reading.{Reading}
 use Rattle.block_writes.proofs.Plays.{Kept, kept-played}
 use Rattle.log_chunks.proofs.Takes.{Fits, fits_marked}

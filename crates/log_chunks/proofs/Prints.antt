@@ -25,8 +25,7 @@ use Rattle.log_line.proofs.Splitting.{long-not-empty, held-not-empty}
 use Rattle.log_text.specs.Text.{refusal_text}
 use Rattle.log_chunks.specs.Events.{Event, completed, refusal, write_events, after_writes, events_from, after_lines, events_of, unit_after}
 use Rattle.log_chunks.specs.Texts.{shown, head_line, replay_text, picture_lines, refused_or, plate_text}
-use Rattle.log_chunks.specs.declared.Desk.{Desk}
-use Rattle.log_chunks.specs.Steps.{Stepped, begun, pending, stepped, told_by, events_on, is_refused, left, Filling, goes_on, next_by, next, fills, fill, last_lf, to_tell, to_end, Fit}
+use Rattle.log_chunks.specs.Steps.{Desk, Stepped, begun, pending, stepped, told_by, events_on, is_refused, left, Filling, goes_on, next_by, next, fills, fill, last_lf, to_tell, to_end, Fit}
 use Rattle.log_reading.specs.declared.Reading.{Reading}
 use Rattle.log_chunks.specs.declared.Told.{Told}
 use Rattle.log_chunks.specs.declared.Told.TheVariants.{Nothing, Command, Refused}

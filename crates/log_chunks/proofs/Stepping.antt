@@ -23,8 +23,7 @@ use Rattle.rules.proofs.Keeps.{WholeIf}
 use Rattle.block_port.specs.Bytes.{packets_some}
 use Rattle.block_writes.specs.Play.{played}
 use Rattle.log_chunks.specs.Texts.{shown}
-use Rattle.log_chunks.specs.declared.Desk.{Desk}
-use Rattle.log_chunks.specs.Steps.{Stepped, answer_of, told_of, ran_on, played_to, pending, ended_as, ended, took, took_on, stepped, holding, with_line, told_by, ToldFits, events_on, is_refused, filled_by, Said}
+use Rattle.log_chunks.specs.Steps.{Desk, Stepped, answer_of, told_of, ran_on, played_to, pending, ended_as, ended, took, took_on, stepped, holding, with_line, told_by, ToldFits, events_on, is_refused, filled_by, Said}
 use Rattle.block_writes.proofs.Plays.{kept-played}
 use Rattle.log_reading.specs.declared.Reading.{Reading}
 use Rattle.log_chunks.specs.declared.Step.{Step}

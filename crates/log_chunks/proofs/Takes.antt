@@ -25,8 +25,7 @@ use Rattle.log_line.specs.Split.{held_as, taken, took_held, took_line, up_to_lf,
 use Rattle.log_line.specs.Calls.{filled}
 use Rattle.log_line.proofs.Splitting.{lines-lf, lines_end, kept-held, took-grown}
 use Rattle.log_chunks.specs.Events.{Event, write_events, after_writes, line_events, after_line, events_from, after_lines}
-use Rattle.log_chunks.specs.declared.Desk.{Desk}
-use Rattle.log_chunks.specs.Steps.{Stepped, pending, ended_as, ended, took, took_on, holding, with_line, told_by, events_on, to_tell, to_end, Fit}
+use Rattle.log_chunks.specs.Steps.{Desk, Stepped, pending, ended_as, ended, took, took_on, holding, with_line, told_by, events_on, to_tell, to_end, Fit}
 use Rattle.log_reading.specs.declared.Reading.{Reading}
 use Rattle.log_chunks.specs.declared.Told.TheVariants.{Nothing}
 

@@ -18,8 +18,7 @@ use Rattle.block_writes.proofs.Plays.{Kept, kept-played}
 use Rattle.log_line.specs.Lines.{marked_from, meaning_marked}
 use Rattle.log_line.specs.Split.{held_as}
 use Rattle.log_chunks.specs.Events.{Event, completed, answer_events, write_events, after_writes, events_from, after_lines}
-use Rattle.log_chunks.specs.declared.Desk.{Desk}
-use Rattle.log_chunks.specs.Steps.{pending, told_of, played_to, ran_on, told_by, events_on, to_tell, to_end, Fit}
+use Rattle.log_chunks.specs.Steps.{Desk, pending, told_of, played_to, ran_on, told_by, events_on, to_tell, to_end, Fit}
 use Rattle.log_reading.specs.declared.Reading.{Reading}
 
 -- ---- writes that are played

@@ -10,8 +10,7 @@ use Rattle.bits.specs.Over.{over}
 use Rattle.bits.proofs.Overs.{over-over}
 use Rattle.log_chunks.specs.Events.{Event}
 use Rattle.log_chunks.specs.Texts.{shown_one, shown}
-use Rattle.log_chunks.specs.declared.Desk.{Desk}
-use Rattle.log_chunks.specs.Steps.{Stepped, stepped, events_on, left, Filling, goes_on, filled_by, next_by, next, Said, fills, fill, filled_to, Full, Fit}
+use Rattle.log_chunks.specs.Steps.{Desk, Stepped, stepped, events_on, left, Filling, goes_on, filled_by, next_by, next, Said, fills, fill, filled_to, Full, Fit}
 use Rattle.log_chunks.specs.declared.Filled.{Filled}
 use Rattle.log_reading.specs.declared.Reading.{Reading}
 use Rattle.log_chunks.proofs.Keeps.{StepKeeps, step_keeps}

@@ -14,8 +14,7 @@ use Rattle.log_line.specs.Line.{Meaning}
 use Rattle.log_line.specs.Lines.{marked_from, last_marked}
 use Rattle.log_line.specs.Split.{held_as}
 use Rattle.log_chunks.specs.Events.{write_events, after_writes, events_from, after_lines, meanings, events_of, unit_after}
-use Rattle.log_chunks.specs.declared.Desk.{Desk}
-use Rattle.log_chunks.specs.Steps.{begun, pending, to_tell, to_end}
+use Rattle.log_chunks.specs.Steps.{Desk, begun, pending, to_tell, to_end}
 use Rattle.log_reading.specs.declared.Reading.{Reading}
 use Rattle.log_line.proofs.Marked.{marked-meanings}
 use Rattle.log_chunks.proofs.Takes.{no-pending}

@@ -21,13 +21,23 @@ use Rattle.log_chunks.specs.Texts.{shown}
 use Rattle.log_reading.specs.declared.Reading.{Reading}
 pub use Rattle.log_reading.specs.Point.{begun}
 unfoldable pub use Rattle.log_reading.specs.Point.{left, last_lf}
-use Rattle.log_chunks.specs.declared.Desk.{Desk}
+use Rattle.log_chunks.specs.declared.Desk as lent
 use Rattle.log_chunks.specs.declared.Filled.{Filled}
 use Rattle.log_chunks.specs.declared.Step.{Step}
 use Rattle.log_chunks.specs.declared.Told.{Told}
 use Rattle.log_chunks.specs.declared.Told.TheVariants.{Nothing, Command, Refused}
 
--- the lent buffers, of their own lengths where the code lends them
+-- the lent buffers: the unit, the line that is held, the decoded writes or screen, the last command
+pub record Desk : Type 0 where
+  pub block : List ℕ
+  pub line : List ℕ
+  pub bytes : List ℕ
+  pub command : List ℕ
+
+-- those that the code lends, the command's of whatever length
+abbrev pub desk_of : {n : ℕ} → lent.Desk n → Desk
+desk_of d = record { block = d.block; line = d.line; bytes = d.bytes; command = d.command }
+
 abbrev pub desk : List ℕ → List ℕ → List ℕ → List ℕ → Desk
 desk b l y c = record { block = b; line = l; bytes = y; command = c }
 

@@ -9,7 +9,7 @@ ghost use Rattle.layout.specs.Valid.{Valid};
 ghost use Rattle.log_text.specs.Text.{hex_line, row_line};
 ghost use Rattle.log_line.specs.Line.{line_digits};
 ghost use Rattle.log_line.specs.Split.{held_size};
-ghost use Rattle.log_chunks.specs.Steps.{fill, told_of, ran_on, answer_of, ended, stepped, Fit, goes_on, step_room, ToldFits, Said, Full, is_refused, told_by, next_line, most64};
+ghost use Rattle.log_chunks.specs.Steps.{fill, told_of, ran_on, answer_of, ended, stepped, Fit, desk_of, goes_on, step_room, ToldFits, Said, Full, is_refused, told_by, next_line, most64};
 ghost use Rattle.layout.specs.Block.{load};
 ghost use Rattle.picture.specs.Picture.{row_of};
 ghost use Rattle.picture.specs.Tables.{TablesOf};
@@ -24,17 +24,17 @@ use log_line::lines::{Held, split};
 use log_line::{LINE_DIGITS, Line, parse};
 use log_reading::Reading;
 use log_text::{command_line, refusal_line};
-use parts::{BLOCK, CAPTURE_BYTES, STORE_BYTES};
+use parts::{BLOCK, CAPTURE_BYTES};
 use picture_runs::drawing::PictureTables;
 
-// What a reading works on: the unit, the line that is held, the decoded writes or the screen, and the last command. A program makes one, and
-// lends it from call to call.
+// What a reading works on: the unit, the line that is held, the decoded writes or the screen, and the last command, whose buffer may be longer
+// than the longest one. A program makes one, and lends it from call to call.
 #[derive(Drop)]
-pub struct Desk {
+pub struct Desk<const COMMAND: usize> {
     pub block: [u8; BLOCK],
     pub line: [u8; LINE_DIGITS],
     pub bytes: [u8; CAPTURE_BYTES],
-    pub command: [u8; STORE_BYTES],
+    pub command: [u8; COMMAND],
 }
 
 // The room that the longest text of a step needs: a command of 112 bytes has 225.
@@ -79,11 +79,12 @@ fn told_of(packets: Option<u8>) -> Told
 // The decoded writes, up to the next command. Not inlined: the maps that a command changes then stand on the stack only as long as it is carried
 // out, and not beneath a landing.
 #[inline(never)]
-fn play_on(reading: Reading, desk: &mut Desk, at: usize) -> Step
+fn play_on<const COMMAND: usize>(reading: Reading, desk: &mut Desk<COMMAND>, at: usize) -> Step
     requires valid { Valid desk.old.block }
+    requires room { store_bytes ≤ length desk.old.command }
     requires from_le_upto { (reading.from ≤ reading.upto) × (reading.upto ≤ capture_bytes) }
-    ensures value { result ≡ answer_of (ran_on reading desk.old at) }
-    ensures desk_after { desk.new ≡ (ran_on reading desk.old at).desk }
+    ensures value { result ≡ answer_of (ran_on reading (desk_of desk.old) at) }
+    ensures desk_after { desk_of desk.new ≡ (ran_on reading (desk_of desk.old) at).desk }
 {
     let bytes: &[u8] = &desk.bytes;
     let p = play(
@@ -156,11 +157,11 @@ fn behind(reading: Reading, at: usize, n: usize, told: Told) -> Step
 }
 
 // The line that is held has ended.
-fn end_line(reading: Reading, desk: &mut Desk, at: usize) -> Step
+fn end_line<const COMMAND: usize>(reading: Reading, desk: &mut Desk<COMMAND>, at: usize) -> Step
     requires valid { Valid desk.old.block }
     requires size_le_line_digits { (held_size reading.held ≤ line_digits) × (reading.number < most64) }
-    ensures value { result ≡ answer_of (ended reading desk.old at) }
-    ensures desk_after { desk.new ≡ (ended reading desk.old at).desk }
+    ensures value { result ≡ answer_of (ended reading (desk_of desk.old) at) }
+    ensures desk_after { desk_of desk.new ≡ (ended reading (desk_of desk.old) at).desk }
 {
     let Held::Bytes(size) = reading.held else {
         return behind(reading, at, 0, Told::Refused);
@@ -177,11 +178,16 @@ fn end_line(reading: Reading, desk: &mut Desk, at: usize) -> Step
 }
 
 // One step: the decoded writes up to the next command, or the chunk up to the next line's end.
-fn take_step(reading: Reading, desk: &mut Desk, chunk: &[u8], at: usize) -> Step
-    requires fit { Fit reading desk.old }
+fn take_step<const COMMAND: usize>(
+    reading: Reading,
+    desk: &mut Desk<COMMAND>,
+    chunk: &[u8],
+    at: usize,
+) -> Step
+    requires fit { Fit reading (desk_of desk.old) }
     requires number_lt_most64 { (reading.number < most64) × ((at ≤ length chunk.now) × (length chunk.now < most64)) }
-    ensures value { result ≡ answer_of (stepped reading desk.old chunk.now at) }
-    ensures desk_after { desk.new ≡ (stepped reading desk.old chunk.now at).desk }
+    ensures value { result ≡ answer_of (stepped reading (desk_of desk.old) chunk.now at) }
+    ensures desk_after { desk_of desk.new ≡ (stepped reading (desk_of desk.old) chunk.now at).desk }
 {
     if reading.from < reading.upto {
         return play_on(reading, desk, at);
@@ -204,11 +210,16 @@ fn take_step(reading: Reading, desk: &mut Desk, chunk: &[u8], at: usize) -> Step
 }
 
 // One step, and its text behind the text that there is.
-fn say(so_far: Filled, desk: &mut Desk, chunk: &[u8], out: &mut [u8]) -> Filled
-    requires fit { Fit so_far.reading desk.old }
+fn say<const COMMAND: usize>(
+    so_far: Filled,
+    desk: &mut Desk<COMMAND>,
+    chunk: &[u8],
+    out: &mut [u8],
+) -> Filled
+    requires fit { Fit so_far.reading (desk_of desk.old) }
     requires so_far_bound { (so_far.reading.number < most64) × ((so_far.at ≤ length chunk.now) × (length chunk.now < most64)) }
     requires step_room_in_bounds { (so_far.size + step_room ≤ length out.old) × (length out.old < most64) }
-    ensures { Said so_far desk.old chunk.now out.old result desk.new out.new }
+    ensures { Said so_far (desk_of desk.old) chunk.now out.old result (desk_of desk.new) out.new }
 {
     let s = take_step(so_far.reading, desk, chunk, so_far.at);
     let n = tell(s, &desk.command, out, so_far.size);
@@ -229,11 +240,17 @@ fn is_refused(step: Step) -> bool
 // Steps, one after the other, with their texts together at the front of `out`: up to a refused line, while the next text has room, and
 // while anything is left of the chunk or of its last line's writes.
 // Stays: the chunk whole, and a place in it: a slice from there on would lose the place that the answer is told in.
-pub fn fill(start: Reading, desk: &mut Desk, chunk: &[u8], from: usize, out: &mut [u8]) -> Filled
-    requires fit { Fit start desk.old }
+pub fn fill<const COMMAND: usize>(
+    start: Reading,
+    desk: &mut Desk<COMMAND>,
+    chunk: &[u8],
+    from: usize,
+    out: &mut [u8],
+) -> Filled
+    requires fit { Fit start (desk_of desk.old) }
     requires chunk_bound { (start.number + length chunk.now < most64 + from) × ((from ≤ length chunk.now) × (length chunk.now < most64)) }
     requires out_len_bound { length out.old < most64 }
-    ensures { Full start desk.old chunk.now from out.old result desk.new out.new }
+    ensures { Full start (desk_of desk.old) chunk.now from out.old result (desk_of desk.new) out.new }
 {
     let mut f = Filled {
         reading: start,

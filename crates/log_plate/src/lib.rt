@@ -20,9 +20,15 @@ use block_picture::of_block::ValidBlock;
 use log_chunks::Desk;
 use log_reader::{Print, Read};
 use log_writer::{Failed, Printer, State, write_out};
+use parts::STORE_BYTES;
 use picture_runs::drawing::PictureTables;
 
-pub fn plate(printer: &mut Printer, desk: &mut Desk, out: &mut [u8], chunk: &mut [u8]) -> Print
+pub fn plate(
+    printer: &mut Printer,
+    desk: &mut Desk<STORE_BYTES>,
+    out: &mut [u8],
+    chunk: &mut [u8],
+) -> Print
     requires out_len { (length out.old ≡ out_bytes) × (length chunk.old ≡ chunk_bytes) }
     ensures { (input : List ℕ) × ((length input ≡ result.got) × Printed (is_ok result.sent) result.ended plate_text input printer.old.tally printer.new.tally) }
 {

@@ -18,8 +18,7 @@ use Rattle.log_line.specs.declared.lines.Held.{Held}
 use Rattle.log_line.specs.declared.lines.Held.TheVariants as H
 use Rattle.log_reading.specs.Point.{lf_behind}
 use Rattle.log_chunks.specs.Events.{Event, line_events, events_from, write_events, after_writes}
-use Rattle.log_chunks.specs.declared.Desk.{Desk}
-use Rattle.log_chunks.specs.Steps.{pending, last_lf, to_tell, to_end, Fit}
+use Rattle.log_chunks.specs.Steps.{Desk, pending, last_lf, to_tell, to_end, Fit}
 use Rattle.log_reading.specs.declared.Reading.{Reading}
 use Rattle.log_chunks.proofs.Prints.{last-tells, last-ends}
 use Rattle.log_chunks.proofs.Whole.{all_told, all_done}

@@ -14,8 +14,7 @@ use Rattle.log_text.proofs.Printed.{text-lent}
 use Rattle.log_writer.specs.Tally.{tallied, Sent}
 use Rattle.log_chunks.specs.Events.{Event}
 use Rattle.log_chunks.specs.Texts.{shown}
-use Rattle.log_chunks.specs.declared.Desk.{Desk}
-use Rattle.log_chunks.specs.Steps.{Filling, fill, Full, left, step_room, to_tell, Fit}
+use Rattle.log_chunks.specs.Steps.{Desk, Filling, fill, Full, left, step_room, to_tell, Fit}
 use Rattle.log_chunks.specs.declared.Filled.{Filled}
 use Rattle.log_reading.specs.declared.Reading.{Reading}
 use Rattle.log_chunks.proofs.Fills.{Tells}

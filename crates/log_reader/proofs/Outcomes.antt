@@ -13,8 +13,7 @@ use Rattle.layout.proofs.Goods.{saved-valid}
 use Rattle.log_writer.specs.Tally.{tallied}
 use Rattle.log_chunks.specs.Events.{Event, events_of, unit_after}
 use Rattle.log_chunks.specs.Texts.{refused_or, picture_lines, plate_text}
-use Rattle.log_chunks.specs.declared.Desk.{Desk}
-use Rattle.log_chunks.specs.Steps.{desk, begun, to_end, Fit}
+use Rattle.log_chunks.specs.Steps.{Desk, desk, begun, to_end, Fit}
 use Rattle.log_reading.specs.declared.Reading.{Reading}
 use Rattle.log_chunks.proofs.Whole.{begins, begins-end}
 use Rattle.log_reader.specs.Fed.{LentSizes}

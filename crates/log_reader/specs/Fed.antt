@@ -2,8 +2,7 @@
 use Rattle.std.specs.Prelude.{ℕ, ◌+◌, ◌≤◌, ◌≡◌, length}
 use Rattle.parts.specs.Parts.{block_bytes, store_bytes, capture_bytes}
 use Rattle.log_line.specs.Line.{line_digits}
-use Rattle.log_chunks.specs.declared.Desk.{Desk}
-use Rattle.log_chunks.specs.Steps.{Fit}
+use Rattle.log_chunks.specs.Steps.{Desk, Fit}
 use Rattle.log_reading.specs.declared.Reading.{Reading}
 use Rattle.log_reader.specs.declared.Fed.{Fed}
 

@@ -7,8 +7,7 @@ use Rattle.log_writer.specs.Tally.{tallied}
 unfoldable pub use Rattle.log_writer.specs.Told.{ToldAs}
 use Rattle.log_chunks.specs.Events.{Event, events_of, unit_after}
 use Rattle.log_chunks.specs.Texts.{shown, refused_or, picture_lines, plate_text}
-use Rattle.log_chunks.specs.declared.Desk.{Desk}
-use Rattle.log_chunks.specs.Steps.{to_tell, to_end, Fit}
+use Rattle.log_chunks.specs.Steps.{Desk, to_tell, to_end, Fit}
 use Rattle.log_reading.specs.declared.Reading.{Reading}
 use Rattle.log_reader.specs.Fed.{chunk_bytes}
 use Rattle.log_reader.specs.declared.Read.{Read}

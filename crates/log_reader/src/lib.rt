@@ -5,13 +5,14 @@
 
 ghost use Rattle.std.specs.Prelude.{false, List, [], ◌≡◌, ℕ, ◌+◌, ◌≤◌, length, take};
 ghost use Rattle.layout.specs.Valid.{Valid};
-ghost use Rattle.log_chunks.specs.Steps.{Fit};
+ghost use Rattle.log_chunks.specs.Steps.{Fit, desk_of};
 ghost use Rattle.log_reader.specs.Fed.{Kept, chunk_bytes, out_bytes, most_lines, most_bytes};
 ghost use Rattle.log_reader.specs.Read.{point, is_well, reads_on, Stands, Turned, Reached};
 
 use log_chunks::Desk;
 use log_reading::Reading;
 use log_writer::{Failed, Printer, State, fail, told};
+use parts::STORE_BYTES;
 use std::io::Read as _;
 
 // The bytes of a read, and of the text between two writes. Small, since they stand on the stack.
@@ -52,7 +53,7 @@ const TURNS: u64 = 1125899906842624;
 // Stays: `quiet` as a bool. The definitions of specs/Read take it so: `text_of`, `Stands`, `Reached`.
 pub fn read_log(
     printer: &mut Printer,
-    desk: &mut Desk,
+    desk: &mut Desk<STORE_BYTES>,
     out: &mut [u8],
     chunk: &mut [u8],
     quiet: bool,
@@ -88,15 +89,15 @@ pub fn read_log(
 fn turn(
     start: Read,
     printer: &mut Printer,
-    desk: &mut Desk,
+    desk: &mut Desk<STORE_BYTES>,
     out: &mut [u8],
     chunk: &mut [u8],
     quiet: bool,
 ) -> Read
-    requires fit { Fit start.reading desk.old }
+    requires fit { Fit start.reading (desk_of desk.old) }
     requires number_le_most_lines { (start.reading.number ≤ most_lines) × (start.got ≤ most_bytes) }
     requires out_len { (length out.old ≡ out_bytes) × (length chunk.old ≡ chunk_bytes) }
-    ensures { (n : ℕ) × Turned quiet start (point start.reading desk.old printer.old.tally) (take n chunk.new) result (point result.reading desk.new printer.new.tally) }
+    ensures { (n : ℕ) × Turned quiet start (point start.reading (desk_of desk.old) printer.old.tally) (take n chunk.new) result (point result.reading (desk_of desk.new) printer.new.tally) }
 {
     let mut input = printer.streams.input;
     let n = match input.read(chunk) {
@@ -124,11 +125,17 @@ fn turn(
 
 // The input has ended: a last line that lacks its LF gets it.
 // Stays: as `turn`.
-fn finish(start: Read, printer: &mut Printer, desk: &mut Desk, out: &mut [u8], quiet: bool) -> Read
-    requires fit { Fit start.reading desk.old }
+fn finish(
+    start: Read,
+    printer: &mut Printer,
+    desk: &mut Desk<STORE_BYTES>,
+    out: &mut [u8],
+    quiet: bool,
+) -> Read
+    requires fit { Fit start.reading (desk_of desk.old) }
     requires number_le_most_lines { start.reading.number ≤ most_lines }
     requires out_len { length out.old ≡ out_bytes }
-    ensures { Turned quiet start (point start.reading desk.old printer.old.tally) [] result (point result.reading desk.new printer.new.tally) }
+    ensures { Turned quiet start (point start.reading (desk_of desk.old) printer.old.tally) [] result (point result.reading (desk_of desk.new) printer.new.tally) }
 {
     let lf = [10u8; 1];
     let k = log_reading::last_lf(start.reading);
@@ -146,16 +153,16 @@ fn finish(start: Read, printer: &mut Printer, desk: &mut Desk, out: &mut [u8], q
 fn feed(
     start: Reading,
     printer: &mut Printer,
-    desk: &mut Desk,
+    desk: &mut Desk<STORE_BYTES>,
     out: &mut [u8],
     chunk: &[u8],
     quiet: bool,
 ) -> Fed
-    requires fit { Fit start desk.old }
+    requires fit { Fit start (desk_of desk.old) }
     requires number_le_most_lines { (start.number ≤ most_lines) × (length chunk.now ≤ chunk_bytes) }
     requires out_len { length out.old ≡ out_bytes }
-    ensures kept { Kept start (length chunk.now) result desk.new }
-    ensures stands { Stands result.state false quiet (point start desk.old printer.old.tally) chunk.now (point result.reading desk.new printer.new.tally) }
+    ensures kept { Kept start (length chunk.now) result (desk_of desk.new) }
+    ensures stands { Stands result.state false quiet (point start (desk_of desk.old) printer.old.tally) chunk.now (point result.reading (desk_of desk.new) printer.new.tally) }
 {
     let mut reading = start;
     let mut at = 0;

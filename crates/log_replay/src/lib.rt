@@ -13,9 +13,15 @@ ghost use Rattle.log_reader.specs.Read.{Printed};
 use log_chunks::Desk;
 use log_reader::Print;
 use log_writer::{Failed, Printer};
+use parts::STORE_BYTES;
 
 // Stays: beside `log_plate::plate`, with the same buffers: docs/PROOFS.md has a contract of each.
-pub fn replay(printer: &mut Printer, desk: &mut Desk, out: &mut [u8], chunk: &mut [u8]) -> Print
+pub fn replay(
+    printer: &mut Printer,
+    desk: &mut Desk<STORE_BYTES>,
+    out: &mut [u8],
+    chunk: &mut [u8],
+) -> Print
     requires out_len { (length out.old ≡ out_bytes) × (length chunk.old ≡ chunk_bytes) }
     ensures { (input : List ℕ) × ((length input ≡ result.got) × Printed (is_ok result.sent) result.ended replay_text input printer.old.tally printer.new.tally) }
 {

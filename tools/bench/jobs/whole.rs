@@ -11,6 +11,14 @@ unsafe extern "C" {
         plate: u8,
         input: *const u8,
         input_len: usize,
+        block: *mut u8,
+        block_len: usize,
+        line: *mut u8,
+        line_len: usize,
+        bytes: *mut u8,
+        bytes_len: usize,
+        command: *mut u8,
+        command_len: usize,
         words: *mut u16,
         words_len: usize,
         text: *mut u8,
@@ -41,8 +49,12 @@ macro_rules! lent {
     };
 }
 
-/// What a program holds beside the desk of its reading.
+/// What a program holds.
 struct Desk {
+    block: Vec<u8>,
+    line: Vec<u8>,
+    bytes: Vec<u8>,
+    command: Vec<u8>,
     words: Vec<u16>,
     text: Vec<u8>,
 }
@@ -50,6 +62,10 @@ struct Desk {
 impl Desk {
     fn new() -> Self {
         Desk {
+            block: vec![0; 30_020],
+            line: vec![0; 11_522],
+            bytes: vec![0; 5_760],
+            command: vec![0; 112],
             words: vec![0; 256],
             text: vec![0; 224 * 1025],
         }
@@ -57,7 +73,8 @@ impl Desk {
 
     /// The text of the plate or of the replay.
     fn run(&mut self, log: &[u8], plate: bool) -> &[u8] {
-        let size = unsafe { lent!(jobs_print, plate, log, self, words text) };
+        let size =
+            unsafe { lent!(jobs_print, plate, log, self, block line bytes command words text) };
         &self.text[..size]
     }
 }

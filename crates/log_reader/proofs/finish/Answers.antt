@@ -4,6 +4,7 @@ use mathlib.Core.Path.{ap}
 use Prim.Native.Nat.{ℕ}
 use native.Mathlib.Omega.{arith}
 use lib.ListN.{length, length-take}
+use Rattle.log_chunks.specs.Steps.{desk_of}
 use Rattle.log_reader.specs.Read.{point}
 use Rattle.log_reader.proofs.Ending.{last-part, last-short, outcome-ends}
 use Rattle.log_reader.proofs.finish.Goals as goal
@@ -19,9 +20,9 @@ pub returns : goal.returns
 returns c =
     let args = c.args in
     let r = args.start.reading in
-    let p = point r args.desk.now args.printer.now.tally in
+    let p = point r (desk_of args.desk.now) args.printer.now.tally in
     let f = c.feed-f in
-    let q = point f.result.reading f.new.desk f.new.printer.tally in
+    let q = point f.result.reading (desk_of f.new.desk) f.new.printer.tally in
     let k = f.ensures in
     let one = last-part r c.last_lf-k.result c.last_lf-k.ensures in
     record {

@@ -2,14 +2,15 @@
 use mathlib.Core.Path.{refl, sym, ap, ◌∙◌}
 use native.Mathlib.Omega.{arith}
 use Rattle.log_reading.specs.declared.Reading.{Reading}
+use Rattle.log_chunks.specs.Steps.{desk_of}
 use Rattle.log_reader.specs.Fed.{LentSizes}
 use Rattle.log_reader.proofs.Outcomes.{so_far_none, so-far-on, so-far-ends, so_far-stops, boot-fit}
 use Rattle.log_reader.proofs.read_log.Goals as goal
 
 pub loop-past-init : goal.loop-past-init
 loop-past-init c =
-    let sizes : LentSizes c.args.desk.now = record { block_long = omega arith; line_long = omega arith; bytes_long = omega arith; command_long = omega arith } in (
-      so_far_none c.args.quiet _ c.args.printer.now.tally c.begin.result c.begin.ensures (boot-fit c.args.desk.now _ sizes c.post_boot.ensures),
+    let sizes : LentSizes (desk_of c.args.desk.now) = record { block_long = omega arith; line_long = omega arith; bytes_long = omega arith; command_long = omega arith } in (
+      so_far_none c.args.quiet _ c.args.printer.now.tally c.begin.result c.begin.ensures (boot-fit (desk_of c.args.desk.now) _ sizes c.post_boot.ensures),
       (omega (arith, ap (λ (r : Reading). r.number) c.begin.ensures), omega arith),
     )
 

@@ -1,6 +1,7 @@
 -- What came is no more than a chunk, and is fed once.
 use native.Mathlib.Omega.{arith}
 use lib.ListN.{length-take}
+use Rattle.log_chunks.specs.Steps.{desk_of}
 use Rattle.log_reader.specs.Read.{point}
 use Rattle.log_reader.proofs.Outcomes.{cut_none}
 use Rattle.log_reader.proofs.turn.Goals as goal
@@ -8,7 +9,7 @@ use Rattle.log_reader.proofs.turn.Goals as goal
 pub returns-in-Err : goal.returns-in-Err
 returns-in-Err c =
     let args = c.args in
-    (0, record { fit = c.requires.fit; numbered = omega arith; counts = omega arith; short = omega arith; outcome = cut_none args.quiet (point args.start.reading args.desk.now args.printer.now.tally) })
+    (0, record { fit = c.requires.fit; numbered = omega arith; counts = omega arith; short = omega arith; outcome = cut_none args.quiet (point args.start.reading (desk_of args.desk.now) args.printer.now.tally) })
 
 pub finish-requires : goal.finish-requires
 finish-requires c = record { fit = c.requires.fit; number_le_most_lines = c.requires.number_le_most_lines.0; out_len = c.requires.out_len.0 }
