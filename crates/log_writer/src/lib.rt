@@ -3,7 +3,8 @@
 // by a value that the code carries.
 #![tactic(auto)]
 
-ghost use Rattle.std.specs.Prelude.{◌≡◌, ◌≤◌, length, take, is_ok, IfOk, OnErr};
+ghost use Rattle.std.specs.Prelude.{◌≡◌, ◌≤◌, cond, length, take, is_ok, IfOk, OnErr};
+ghost use Rattle.std.specs.Process.{exit_status};
 ghost use Rattle.log_writer.specs.Tally.{tallied, Sent};
 ghost use Rattle.log_writer.specs.Told.{ToldAs};
 
@@ -19,17 +20,6 @@ pub struct Streams {
     pub words: Stderr,
 }
 
-impl Streams {
-    // A bound on the runtime would not do: std's traits have no call that hands out a stream.
-    pub fn of(rt: &HostRuntime) -> Streams {
-        Streams {
-            input: rt.stdin(),
-            output: rt.stdout(),
-            words: rt.stderr(),
-        }
-    }
-}
-
 // What is printed to: the streams, and the tally of what standard output took. `main` makes one, and lends it from call to call.
 #[derive(Drop)]
 pub struct Printer {
@@ -38,12 +28,16 @@ pub struct Printer {
 }
 
 impl Printer {
-    // Nothing is printed yet.
+    // Nothing is printed yet. A bound on the runtime would not do: std's traits have no call that hands out a stream.
     pub fn of(rt: &HostRuntime) -> Printer
         ensures { result.tally ≡ 0 }
     {
         Printer {
-            streams: Streams::of(rt),
+            streams: Streams {
+                input: rt.stdin(),
+                output: rt.stdout(),
+                words: rt.stderr(),
+            },
             tally: 0,
         }
     }
@@ -54,7 +48,9 @@ impl Printer {
 pub struct Failed;
 
 // The exit status of a program.
-pub fn status(sent: Result<(), Failed>) -> ExitCode {
+pub fn status(sent: Result<(), Failed>) -> ExitCode
+    ensures { exit_status result ≡ cond (is_ok sent) 0 1 }
+{
     match sent {
         Ok(()) => ExitCode::SUCCESS,
         Err(Failed) => ExitCode::FAILURE,
