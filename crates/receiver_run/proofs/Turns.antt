@@ -41,6 +41,10 @@ ready-lined u x mask v r =
 
 -- ---- what the code of a turn has at hand
 
+-- the lines and the index, which the code has one by one
+abbrev pub here : Bool → Bool → ℕ → Lines
+here p15 both index = record { p15 = p15; both = both; index = index }
+
 abbrev pub port : Rx → Bool → Bool → List ℕ → Port
 port r p15 both s = record { p15 = p15; both = both; rx = r; store = s }
 
