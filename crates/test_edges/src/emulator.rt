@@ -5,7 +5,7 @@ use bits::all_zero;
 use refusal::Refusal;
 use state_spans::{Spans, SpansMut};
 use std::io::Stdout;
-use test_text::{checked, line, say};
+use test_text::{checked, line, number, say};
 
 pub fn examples(stdout: Stdout, block: &mut [u8]) {
     let _ = unit::new(block);
@@ -147,7 +147,9 @@ fn tell(stdout: Stdout, told: Result<usize, Refusal>) {
     match told {
         Err(r) => test_text::refused(stdout, r),
         Ok(present) => {
-            let _ = println!(stdout; "out, presence {present}");
+            say(stdout, b"out, presence ");
+            number(stdout, present as u64);
+            say(stdout, b"\n");
         }
     }
 }

@@ -6,8 +6,8 @@ use crate::maps::row;
 use bits::{high_byte, low_byte, put};
 use refusal::Refusal;
 use std::io::Stdout;
-use test_text::say;
 use test_text::sent::played;
+use test_text::{number, say};
 
 // A command that announces how many items follow.
 #[derive(Clone, Copy, Debug, PartialEq, Eq)]
@@ -27,11 +27,11 @@ impl Announced {
         }
     }
 
-    fn name(self) -> &'static str {
+    fn name(self, stdout: Stdout) {
         match self {
-            Announced::Sets => "sets",
-            Announced::Lines => "lines",
-            Announced::Cells => "cells",
+            Announced::Sets => say(stdout, b", sets "),
+            Announced::Lines => say(stdout, b", lines "),
+            Announced::Cells => say(stdout, b", cells "),
         }
     }
 }
@@ -77,8 +77,11 @@ fn cells(stdout: Stdout) {
 
 // The verdict on a command that announces so many items in so many packets.
 fn judge(stdout: Stdout, items: Announced, packets: u8, count: u16) {
-    let name = items.name();
-    let _ = print!(stdout; "packets {packets}, {name} {count}: ");
+    say(stdout, b"packets ");
+    number(stdout, packets.into());
+    items.name(stdout);
+    number(stdout, count.into());
+    say(stdout, b": ");
     let d = announcing(items, packets, count);
     tell(
         stdout,

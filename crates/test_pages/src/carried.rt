@@ -7,7 +7,7 @@ ghost use Rattle.transfer.specs.Page.{page_bytes};
 use refusal::Refusal;
 use std::io::Stdout;
 use test_text::sent::{played, show};
-use test_text::{line, refused};
+use test_text::{line, number, refused, say};
 use transfer::page::PAGE_BYTES;
 
 pub fn examples(stdout: Stdout, block: &mut [u8; parts::BLOCK]) {
@@ -35,7 +35,11 @@ fn carried(stdout: Stdout, at: usize, low: u8, high: u8, shown: usize)
     let page = two(at, low, high);
     let mut screen = [0u8; parts::CAPTURE_BYTES];
     let _ = pages::page_screen(&page, &mut screen);
-    let _ = print!(stdout; "page byte {at}, screen byte {shown}: ");
+    say(stdout, b"page byte ");
+    number(stdout, at as u64);
+    say(stdout, b", screen byte ");
+    number(stdout, shown as u64);
+    say(stdout, b": ");
     line(stdout, &screen[shown..shown + 2]);
 }
 
@@ -73,7 +77,8 @@ fn tell(stdout: Stdout, told: Result<usize, Refusal>) {
     match told {
         Err(r) => refused(stdout, r),
         Ok(n) => {
-            let _ = println!(stdout; "{n} bytes");
+            number(stdout, n as u64);
+            say(stdout, b" bytes\n");
         }
     }
 }

@@ -27,7 +27,9 @@ fn one(stdout: Stdout, round: usize, block: &mut [u8]) {
     let screens = screens::show(round, block, SEED);
     let looks = looks::look(round, block, SEED);
     let whole = digest::all(SEED, block);
-    let _ = println!(stdout;
-        "{round:03x} {first:02x} {writes:016x} {screens:016x} {looks:016x} {whole:016x}"
-    );
+    let _ = print!(stdout; "{round:03x} {first:02x}");
+    for digest in [writes, screens, looks, whole] {
+        let _ = print!(stdout; " {digest:016x}");
+    }
+    let _ = stdout.println("");
 }

@@ -25,15 +25,21 @@ pub fn number(stdout: Stdout, n: u64) {
 
 // A refusal's number, and the offset that may come with it.
 pub fn refused(stdout: Stdout, told: Refusal) {
-    let number = told.number();
-    let offset = told.offset();
-    let _ = println!(stdout; "{number} at {offset}");
+    at(stdout, told.number().into(), told.offset() as u64);
+}
+
+// Piece by piece, here and wherever a line has a number: what a full pipe takes of a line is then what it took of it at first.
+fn at(stdout: Stdout, refused: u64, offset: u64) {
+    number(stdout, refused);
+    say(stdout, b" at ");
+    number(stdout, offset);
+    say(stdout, b"\n");
 }
 
 // The same of a call that can only be refused: 0 at 0 where it isn't.
 pub fn checked(stdout: Stdout, told: Result<(), Refusal>) {
     match told {
-        Ok(()) => say(stdout, b"0 at 0\n"),
+        Ok(()) => at(stdout, 0, 0),
         Err(r) => refused(stdout, r),
     }
 }

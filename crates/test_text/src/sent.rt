@@ -2,7 +2,7 @@
 ghost use Rattle.std.specs.Prelude.{◌+◌, ◌≤◌};
 ghost use Rattle.parts.specs.Parts.{block_bytes};
 
-use crate::{line, say};
+use crate::{line, number, say};
 use refusal::Refusal;
 use std::io::Stdout;
 use transfer::pending::Transfer;
@@ -49,10 +49,17 @@ pub fn show(stdout: Stdout, screen: &[u8], block: &mut [u8; parts::BLOCK], part:
 }
 
 fn tell(stdout: Stdout, told: Result<Option<Transfer>, Refusal>) {
-    let _ = match told {
-        Err(r) => print!(stdout; "refused {}", r.number()),
-        Ok(None) => print!(stdout; "nothing lands"),
-        Ok(Some(transfer)) => print!(stdout; "kind {} lands", transfer.number()),
-    };
+    match told {
+        Err(r) => {
+            say(stdout, b"refused ");
+            number(stdout, r.number().into());
+        }
+        Ok(None) => say(stdout, b"nothing lands"),
+        Ok(Some(transfer)) => {
+            say(stdout, b"kind ");
+            number(stdout, transfer.number().into());
+            say(stdout, b" lands");
+        }
+    }
     say(stdout, b", the part starts ");
 }
