@@ -34,7 +34,7 @@ pub fn run(start: Receiver, lines: Lines, mask: u8, writes: &[u8], store: &mut [
     ensures completed { result.packets ≡ packets_if (runs mask 0 lines.index (port_of start lines store.old) writes.now).packets }
 {
     let mut rx = start;
-    // Stays: three variables and not one `Lines`, by which who asks for the commands alone takes half as long again: less is left out of what he doesn't ask.
+    // Stays: three variables and not one `Lines`, by which who asks for the commands alone takes a quarter to a half longer: less is left out of what he doesn't ask.
     let mut p15 = lines.p15;
     let mut both = lines.both;
     let mut index = lines.index;
